@@ -1,0 +1,4 @@
+pub mod Outcome
+pub mod Refusal
+pub mod Store
+pub mod Only
