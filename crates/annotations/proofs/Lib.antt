@@ -1,3 +1,4 @@
 pub mod NumberLaws
 pub mod SignedLaws
 pub mod AnnotationLaws
+pub mod StepLaws

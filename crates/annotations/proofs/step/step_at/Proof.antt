@@ -1,3 +1,4 @@
+use Rattle.annotations.proofs.StepLaws.{step-cases}
 use borrow.Author.Needs.{needs}
 use Rattle.annotations.proofs.step.step_at.Statement.{statement}
 use Rattle.annotations.proofs.step.step_at.Tie as tie
@@ -9,7 +10,7 @@ use Rattle.annotations.proofs.step.up.Reads as up-reads
 
 -- src/step.rt:28:9
 returns : tie.Need-returns
-returns c = ?
+returns c = search step-cases
 
 -- src/step.rt:30:9
 uncompress-next-requires : tie.Need-uncompress-next-requires
@@ -29,15 +30,15 @@ up-requires c κs = search needs
 
 -- src/step.rt:32:9
 returns-2 : tie.Need-returns-2
-returns-2 c = ?
+returns-2 c = search step-cases
 
 -- src/step.rt:36:9
 returns-3 : tie.Need-returns-3
-returns-3 c = ?
+returns-3 c = search step-cases
 
 -- src/step.rt:39:9
 returns-4 : tie.Need-returns-4
-returns-4 c = ?
+returns-4 c = search step-cases
 
 -- src/step.rt:41:9
 uncompress-next-requires-2 : tie.Need-uncompress-next-requires-2
@@ -57,7 +58,7 @@ up-requires-2 c κs = search needs
 
 -- src/step.rt:43:9
 returns-5 : tie.Need-returns-5
-returns-5 c = ?
+returns-5 c = search step-cases
 
 -- src/step.rt:46:13
 uncompress-next-requires-3 : tie.Need-uncompress-next-requires-3
@@ -77,7 +78,7 @@ up-requires-3 c κs = search needs
 
 -- src/step.rt:48:13
 returns-6 : tie.Need-returns-6
-returns-6 c = ?
+returns-6 c = search step-cases
 
 -- src/step.rt:51:25
 annotation-requires : tie.Need-annotation-requires
@@ -85,7 +86,7 @@ annotation-requires c κs = search needs
 
 -- src/step.rt:50:9
 returns-7 : tie.Need-returns-7
-returns-7 c = ?
+returns-7 c = search step-cases
 
 -- src/step.rt:56:21
 annotation-requires-2 : tie.Need-annotation-requires-2
@@ -93,7 +94,7 @@ annotation-requires-2 c κs = search needs
 
 -- src/step.rt:23:1
 returns-8 : tie.Need-returns-8
-returns-8 c = ?
+returns-8 c = search step-cases
 
 pub step-at-spec : {M : Type 1} → statement M
 step-at-spec =

@@ -1,3 +1,4 @@
+use Rattle.annotations.proofs.StepLaws.{up-cases}
 use borrow.Author.Needs.{needs}
 use Rattle.annotations.proofs.step.up.Statement.{statement}
 use Rattle.annotations.proofs.step.up.Tie as tie
@@ -14,11 +15,11 @@ enum-known-r-2 c = search needs
 
 -- src/step.rt:62:1
 returns : tie.Need-returns
-returns c = ?
+returns c = search up-cases
 
 -- src/step.rt:62:1
 returns-2 : tie.Need-returns-2
-returns-2 c = ?
+returns-2 c = search up-cases
 
 pub up-spec : {M : Type 1} → statement M
 up-spec = tie.close (tie.spec enum-known-r enum-known-r-2 returns returns-2)
