@@ -2,3 +2,5 @@ pub mod NumberLaws
 pub mod SignedLaws
 pub mod AnnotationLaws
 pub mod StepLaws
+pub mod RunLaws
+pub mod DecodeLaws

@@ -1,1 +1,2 @@
 pub mod OnlyLaws
+pub mod OutcomeLaws

@@ -1,3 +1,5 @@
+use native.Mathlib.Omega.{arith}
+use Rattle.annotations.proofs.DecodeLaws.{decode-cases, room, few}
 use borrow.Author.Needs.{needs}
 use Rattle.annotations.proofs.decode.decode_all.Statement.{statement}
 use Rattle.annotations.proofs.decode.decode_all.Tie as tie
@@ -25,19 +27,19 @@ up-requires c κs = search needs
 
 -- src/decode.rt:37:9
 returns : tie.Need-returns
-returns c = ?
+returns c = search decode-cases
 
 -- src/decode.rt:39:18
 mul-needed : tie.Need-mul-needed
-mul-needed c = ?
+mul-needed c = omega (arith, few _ (c .before .before .before .before .before .args .store .now) (c .before .before .before .count-all .ensures) (c .before .c .given .1))
 
 -- src/decode.rt:41:9
 returns-2 : tie.Need-returns-2
-returns-2 c = ?
+returns-2 c = search decode-cases
 
 -- src/decode.rt:43:5
 write-all-requires : tie.Need-write-all-requires
-write-all-requires c κs = ?
+write-all-requires c κs = search room
 
 -- src/decode.rt:32:1
 same-length : tie.Need-same-length
@@ -45,7 +47,7 @@ same-length c = search needs
 
 -- src/decode.rt:32:1
 returns-3 : tie.Need-returns-3
-returns-3 c = ?
+returns-3 c = search decode-cases
 
 pub decode-all-spec : {M : Type 1} → statement M
 decode-all-spec =

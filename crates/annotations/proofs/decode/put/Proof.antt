@@ -1,3 +1,6 @@
+use native.Mathlib.Omega.{arith}
+use lib.ListN.{length-set}
+use Rattle.annotations.proofs.DecodeLaws.{put-is}
 use borrow.Author.Needs.{needs}
 use Rattle.annotations.proofs.decode.put.Statement.{statement}
 use Rattle.annotations.proofs.decode.put.Tie as tie
@@ -27,7 +30,7 @@ mul-first c = search needs
 
 -- src/decode.rt:104:5
 slice-set-from-first : tie.Need-slice-set-from-first
-slice-set-from-first c = ?
+slice-set-from-first c = simp length-set (omega arith)
 
 -- src/decode.rt:105:11
 add-second : tie.Need-add-second
@@ -39,7 +42,7 @@ mul-second c = search needs
 
 -- src/decode.rt:105:5
 slice-set-from-second : tie.Need-slice-set-from-second
-slice-set-from-second c = ?
+slice-set-from-second c = simp length-set (omega arith)
 
 -- src/decode.rt:96:1
 same-length : tie.Need-same-length
@@ -47,7 +50,7 @@ same-length c = search needs
 
 -- src/decode.rt:96:1
 returns : tie.Need-returns
-returns c = ?
+returns c = search put-is
 
 pub put-spec : {M : Type 1} → statement M
 put-spec =
