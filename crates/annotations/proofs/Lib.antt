@@ -4,3 +4,5 @@ pub mod AnnotationLaws
 pub mod StepLaws
 pub mod RunLaws
 pub mod DecodeLaws
+pub mod Cases
+pub mod Told

@@ -6,3 +6,5 @@ pub mod Step
 pub mod Decode
 pub mod Promises
 pub mod Inner
+pub mod Statements
+pub mod Cases
