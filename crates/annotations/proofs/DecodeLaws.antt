@@ -21,7 +21,7 @@ use Rattle.annotations.specs.Decode.{Run, rest, decodeAll, entriesEach, 
 use Rattle.annotations.specs.Inner.{Counting, CountHandedUp, countedIn}
 use Rattle.annotations.specs.Promises.{stepIn, decodedIn, Stepping, Decoding}
 use Rattle.annotations.proofs.AnnotationLaws.{stored}
-use Rattle.annotations.proofs.RunLaws.{Moved, moved, rest-on, rest-end, rest-refused, at-most-half}
+use Rattle.annotations.proofs.RunLaws.{Moved, moved, rest-on, rest-end, rest-refused, half}
 use Rattle.annotations.specs.declared.refusal.Refusal.{Refusal}
 use Rattle.annotations.specs.declared.annotation.BinaryAnnotation.{BinaryAnnotation}
 use Rattle.annotations.specs.declared.annotation.Triple.{Triple}
@@ -171,7 +171,7 @@ module _ (s : List ℕ) (store : List ℤ) {c : Counted} (p : Counting s c) wher
     is-count = all-is (decodeAll s .last) _ n (sym counts)
 
     pub few : 2 * n ≤ length s
-    few = rw is-count (at-most-half s)
+    few = rw is-count (half s)
 
     pub no-room : length store < 3 * n → Decoding s store (NoRoom (3 * n)) store
     unfolding decoding decodedIn written raise require _>>=_ _>>_

@@ -6,3 +6,4 @@ pub mod RunLaws
 pub mod DecodeLaws
 pub mod Cases
 pub mod Told
+pub mod Statements

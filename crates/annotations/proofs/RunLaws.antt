@@ -125,6 +125,6 @@ unfolding runFrom
 half-from s zero at = omega arith
 half-from s (suc fuel) at = half-on (runFrom s fuel) (step-moves s at) (half-from s fuel)
 
-pub at-most-half : (s : List ℕ) → 2 * length (decodeAll s .found) ≤ length s
+pub half : (s : List ℕ) → 2 * length (decodeAll s .found) ≤ length s
 unfolding decodeAll rest
-at-most-half s = omega (arith, half-from s (suc (length s - 0)) 0)
+half s = omega (arith, half-from s (suc (length s - 0)) 0)
