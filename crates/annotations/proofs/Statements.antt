@@ -30,7 +30,7 @@ single-valued =
       uncompress-next = λ s at a b p q. only uncompressedIn (told .uncompressed) (numberAt s at) a b (p .answer) (q .answer);
       step-at = λ s at a b p q. only stepIn (told .step) (stepAt s at) a b (p .answer) (q .answer);
       decode-all = λ s store a b x y p q.
-      only₂ decodedIn (told .decoded) (decoding s (length store)) _ a b x y (p .answer, p .after) (q .answer, q .after);
+          only₂ decodedIn (told .decoded) (decoding s (length store)) _ a b x y (p .answer, p .after) (q .answer, q .after);
     }
 
 pub at-most-half : AtMostHalf

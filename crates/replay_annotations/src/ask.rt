@@ -1,0 +1,149 @@
+// One question to the library, and the digest of what it answers: the number and the steps at a place, and all of the
+// bytes decoded into stores of several rooms. Each answer begins with the number of its case.
+use crate::digest::Digest;
+use annotations::Decoded;
+use annotations::Refusal;
+use annotations::Step;
+use annotations::Uncompressed;
+
+const NUMBER: u64 = 1;
+
+const NUMBER_REFUSED: u64 = 2;
+
+const ANNOTATION: u64 = 3;
+
+const END: u64 = 4;
+
+const STEP_REFUSED: u64 = 5;
+
+const ALL_DECODED: u64 = 6;
+
+const ALL_REFUSED: u64 = 7;
+
+const NO_ROOM: u64 = 8;
+// Document 01's number of the refusal for want of room.
+const NO_ROOM_REFUSAL: u64 = 10;
+
+// What a record asks: a place, and the rooms of the stores.
+pub struct Question {
+    pub at: usize,
+    pub low: usize,
+    pub high: usize,
+}
+
+pub fn answer(d: Digest, q: Question, bytes: &[u8], store: &mut [i64]) -> Digest {
+    let numbered = number(d, bytes, q.at);
+    let stepped = steps(numbered, bytes, q.at);
+    rooms(stepped, bytes, store, q.low, q.high)
+}
+
+// The number at a place.
+fn number(d: Digest, bytes: &[u8], at: usize) -> Digest {
+    match annotations::uncompress_next(bytes, at) {
+        Uncompressed::Value(n) => d.plain(NUMBER).plain(n.value as u64).plain(n.next as u64),
+        Uncompressed::Refused(why, place) => refused(d, NUMBER_REFUSED, why, place),
+    }
+}
+
+// Where the steps have come to.
+struct Walk {
+    digest: Digest,
+    at: usize,
+    ended: bool,
+}
+
+// The steps from a place on, going on after a refusal. A step moves by at least one byte, so one more than the length
+// is enough to come to the end.
+fn steps(d: Digest, bytes: &[u8], at: usize) -> Digest {
+    let mut walk = Walk {
+        digest: d,
+        at,
+        ended: false,
+    };
+    for _ in 0..=bytes.len() {
+        walk = step(walk, bytes);
+    }
+    walk.digest
+}
+
+fn step(walk: Walk, bytes: &[u8]) -> Walk {
+    if walk.ended {
+        return walk;
+    }
+    let d = walk.digest;
+    match annotations::step_at(bytes, walk.at) {
+        Step::Annotation(a) => {
+            let annotation = a.annotation;
+            let t = annotation.triple();
+            let kind = d.plain(ANNOTATION).plain(0).plain(t.opcode as u64);
+            Walk {
+                digest: kind.signed(t.first).signed(t.second).plain(a.next as u64),
+                at: a.next,
+                ended: false,
+            }
+        }
+        Step::End(place) => Walk {
+            digest: d.plain(END).plain(place as u64),
+            at: place,
+            ended: true,
+        },
+        Step::Refused(why, place) => Walk {
+            digest: refused(d, STEP_REFUSED, why, place),
+            at: place,
+            ended: false,
+        },
+    }
+}
+
+// All of the bytes decoded, once for each room.
+fn rooms(d: Digest, bytes: &[u8], store: &mut [i64], low: usize, high: usize) -> Digest {
+    let mut digest = d;
+    for room in low..=high {
+        digest = in_room(digest, bytes, store, room);
+    }
+    digest
+}
+
+fn in_room(d: Digest, bytes: &[u8], store: &mut [i64], room: usize) -> Digest {
+    if store.len() < room {
+        return d;
+    }
+    decoded(d, bytes, &mut store[..room])
+}
+
+// The answer, and then the whole store, so that an entry that was written and should not have been shows.
+fn decoded(d: Digest, bytes: &[u8], store: &mut [i64]) -> Digest {
+    clear(store);
+    let answered = match annotations::decode_all(bytes, store) {
+        Decoded::Count(n) => d.plain(ALL_DECODED).plain(n as u64),
+        Decoded::Refused(why, place) => refused(d, ALL_REFUSED, why, place),
+        Decoded::NoRoom(needed) => d.plain(NO_ROOM).plain(NO_ROOM_REFUSAL).plain(needed as u64),
+    };
+    entries(answered, store)
+}
+
+// Puts a number of its own at each entry, that no annotation has.
+fn clear(store: &mut [i64]) {
+    for i in 0..store.len() {
+        store[i] = untouched(i);
+    }
+}
+
+fn untouched(i: usize) -> i64 {
+    -1000 - (i % 65536) as i64
+}
+
+fn entries(d: Digest, store: &[i64]) -> Digest {
+    let mut digest = d;
+    for i in 0..store.len() {
+        digest = digest.signed(store[i]);
+    }
+    digest
+}
+
+fn refused(d: Digest, case: u64, why: Refusal, place: usize) -> Digest {
+    d.plain(case)
+        .plain(why.number() as u64)
+        .plain(why.value())
+        .plain(place as u64)
+}

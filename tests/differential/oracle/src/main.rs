@@ -1,0 +1,80 @@
+//! The Rust's side of the differential tests: asks pdb 0.8.0 and writes its answers as a list.
+//!
+//!     oracle record           the fixed list, the same at each run
+//!     oracle live SEED COUNT  COUNT random byte strings
+//!     oracle show N           reads a list, and prints record N with the Rust's answers
+//!     oracle alter N          reads a list, and writes it with one wrong answer, at record N
+
+use std::io::{self, BufWriter, Read, Write};
+
+use fallible_iterator::FallibleIterator;
+
+// The sources of pdb, as the build copies them. They name each other from the crate's root.
+#[allow(warnings)]
+#[path = "../pdb/src/common.rs"]
+mod common;
+#[allow(warnings)]
+#[path = "../pdb/src/msf/mod.rs"]
+mod msf;
+#[allow(warnings)]
+#[path = "../pdb/src/source.rs"]
+mod source;
+#[allow(warnings)]
+#[path = "../pdb/src/symbol"]
+mod symbol {
+    pub mod annotations;
+}
+#[allow(warnings)]
+#[path = "../pdb/src/tpi"]
+mod tpi {
+    pub mod constants;
+}
+
+// Our own.
+mod answers;
+mod digest;
+mod list;
+mod programs;
+mod questions;
+mod random;
+mod show;
+
+const USAGE: &str = "usage: oracle record | live SEED COUNT | show N | alter N";
+
+fn main() {
+    let words: Vec<String> = std::env::args().skip(1).collect();
+    let words: Vec<&str> = words.iter().map(String::as_str).collect();
+    if answer(&words, &mut BufWriter::new(io::stdout())).is_err() {
+        // A reader that has seen enough may close the pipe.
+        std::process::exit(1);
+    }
+}
+
+fn answer(words: &[&str], out: &mut impl Write) -> io::Result<()> {
+    match *words {
+        ["record"] => list::write(questions::fixed().into_iter(), out)?,
+        ["live", seed, count] => list::write(questions::live(number(seed), number(count)), out)?,
+        ["show", n] => out.write_all(show::record(&read(), number(n) as usize).as_bytes())?,
+        ["alter", n] => out.write_all(&list::altered(&read(), number(n) as usize))?,
+        _ => stop(USAGE),
+    }
+    out.flush()
+}
+
+fn number(word: &str) -> u64 {
+    word.parse().unwrap_or_else(|_| stop(USAGE))
+}
+
+fn read() -> Vec<u8> {
+    let mut list = Vec::new();
+    match io::stdin().read_to_end(&mut list) {
+        Ok(_) => list,
+        Err(e) => stop(&format!("standard input: {}", e)),
+    }
+}
+
+/// Ends the program with one line that says why.
+pub fn stop(why: &str) -> ! {
+    eprintln!("oracle: {}", why);
+    std::process::exit(1)
+}

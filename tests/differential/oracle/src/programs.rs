@@ -1,0 +1,101 @@
+//! Byte strings to ask about: made like annotation programs, damaged, or of random bytes.
+
+use crate::random::Random;
+
+/// The ends of each form's range, of the parts of opcode 11's operand, and around them.
+const BOUNDARIES: [u32; 20] = [
+    0, 1, 2, 3, 15, 16, 17, 31, 32, 0x7e, 0x7f, 0x80, 0xff, 0x100, 0x3ffe, 0x3fff, 0x4000, 0x10000,
+    0x1ffffffe, 0x1fffffff,
+];
+
+/// How many bytes the forms of a number take, and the first number that each cannot hold.
+const FORMS: [(usize, u32); 3] = [(1, 0x80), (2, 0x4000), (4, 0x2000_0000)];
+
+/// A program of at least `length` bytes unless it is cut off: annotations with operands of every
+/// form, then zeros or none.
+pub fn structured(random: &mut Random, length: usize) -> Vec<u8> {
+    let mut program = Vec::new();
+    while program.len() < length {
+        annotation(random, &mut program);
+    }
+    for _ in 0..random.below(4) {
+        program.push(0);
+    }
+    program
+}
+
+/// A damaged copy.
+pub fn mutated(random: &mut Random, program: &[u8]) -> Vec<u8> {
+    let mut damaged = program.to_vec();
+    for _ in 0..=random.below(3) {
+        mutate(random, &mut damaged);
+    }
+    damaged
+}
+
+/// Random bytes, fewer than `end`.
+pub fn uniform(random: &mut Random, end: usize) -> Vec<u8> {
+    (0..random.below(end)).map(|_| random.byte()).collect()
+}
+
+fn annotation(random: &mut Random, program: &mut Vec<u8>) {
+    let opcode = if random.one_in(32) {
+        random.below(16) as u32
+    } else {
+        1 + random.below(13) as u32
+    };
+    // An opcode is a number too, so it has long forms.
+    number(random, opcode, 16, program);
+    for _ in 0..if opcode == 12 { 2 } else { 1 } {
+        let value = operand(random);
+        number(random, value, 3, program);
+    }
+}
+
+fn operand(random: &mut Random) -> u32 {
+    match random.below(4) {
+        0 => random.pick(&BOUNDARIES),
+        1 => random.below(0x80) as u32,
+        2 => random.below(0x4000) as u32,
+        _ => random.below(0x2000_0000) as u32,
+    }
+}
+
+/// Writes a number: in its shortest form, or once in `long` times in a longer one. Now and then a
+/// first byte of no form stands in its place.
+fn number(random: &mut Random, value: u32, long: usize, program: &mut Vec<u8>) {
+    if random.one_in(200) {
+        program.push(0xe0 + random.below(32) as u8);
+        return;
+    }
+    let mut forms = FORMS
+        .iter()
+        .filter(|form| value < form.1)
+        .map(|form| form.0);
+    let shortest = forms.next().expect("every number here is below 2^29");
+    let longer: Vec<usize> = forms.collect();
+    let length = if !longer.is_empty() && random.one_in(long) {
+        random.pick(&longer)
+    } else {
+        shortest
+    };
+    let mark: u32 = match length {
+        1 => 0,
+        2 => 0x8000,
+        _ => 0xc000_0000,
+    };
+    program.extend_from_slice(&(value | mark).to_be_bytes()[4 - length..]);
+}
+
+/// Turns a bit, drops a byte, inserts one, or cuts the end off.
+fn mutate(random: &mut Random, bytes: &mut Vec<u8>) {
+    let at = random.below(bytes.len() + 1);
+    match random.below(4) {
+        0 if at < bytes.len() => bytes[at] ^= 1 << random.below(8),
+        1 if at < bytes.len() => {
+            bytes.remove(at);
+        }
+        2 => bytes.truncate(at),
+        _ => bytes.insert(at, random.byte()),
+    }
+}
