@@ -1,0 +1,89 @@
+// The part of `ParseBuffer` (`src/common.rs`) that the container uses: little-endian numbers, and `take`.
+//
+// A reader here is the lent bytes and a place. `word_at` is total: a byte past the end counts as 0, as `byteAt` of
+// specs/Bytes.antt has it, so that what is read never depends on who checked a length first.
+ghost use mathlib.Core.Path.{_≡_};
+ghost use Prim.Native.Nat.{_+_, _-_, _*_, _^_, _<_, _≤_};
+ghost use lib.ListN.{length, take, drop};
+ghost use Rattle.parse_buffer.specs.Bytes.{byteAt, word};
+ghost use Rattle.parse_buffer.specs.Parse.{Parsing, Taking, InPlace};
+
+// A number that was read, and the place after it.
+pub struct Word {
+    pub value: u32,
+    pub next: usize,
+}
+
+// The number at a place, or refusal 7.
+pub enum Parsed {
+    Value(Word),
+    ShortData,
+}
+
+pub fn parse_u32(bytes: &[u8], at: usize) -> Parsed
+    ensures { λ r. ⌜ Parsing (now (bytes .entry)) at r ⌝ }
+{
+    let n = bytes.len();
+    if n <= at {
+        return Parsed::ShortData;
+    }
+    let left = n - at;
+    if left < 4 {
+        return Parsed::ShortData;
+    }
+    Parsed::Value(Word {
+        value: word_at(bytes, at),
+        next: at + 4,
+    })
+}
+
+// The n bytes from a place on: the very part of the lent bytes, with no copy. Where they are not there, no byte.
+pub fn take(bytes: &[u8], at: usize, n: usize) -> &[u8]
+    ensures { λ r. ⌜ Taking (bytes .entry) at n r ⌝ }
+{
+    if bytes.len() < at {
+        return part(bytes, 0, 0);
+    }
+    let left = bytes.len() - at;
+    if left < n {
+        return part(bytes, 0, 0);
+    }
+    part(bytes, at, at + n)
+}
+
+// The little-endian number at a place.
+pub fn word_at(bytes: &[u8], at: usize) -> u32
+    ensures { λ r. ⌜ r ≡ word (byteAt (now (bytes .entry))) at ⌝ }
+{
+    if bytes.len() <= at {
+        return 0;
+    }
+    let a = byte(bytes, at);
+    let b = byte(bytes, at + 1);
+    let c = byte(bytes, at + 2);
+    let d = byte(bytes, at + 3);
+    join(a, b, c, d)
+}
+
+fn byte(bytes: &[u8], at: usize) -> u32
+    ensures { λ r. ⌜ (r ≡ byteAt (now (bytes .entry)) at) × (r < 256) ⌝ }
+{
+    if at < bytes.len() {
+        return bytes[at] as u32;
+    }
+    0
+}
+
+fn join(a: u32, b: u32, c: u32, d: u32) -> u32
+    requires { ⌜ (a < 256) × ((b < 256) × ((c < 256) × (d < 256))) ⌝ }
+    ensures { λ r. ⌜ r ≡ a + b * 2 ^ 8 + c * 2 ^ 16 + d * 2 ^ 24 ⌝ }
+{
+    a + b * 0x100 + c * 0x10000 + d * 0x1000000
+}
+
+fn part(bytes: &[u8], start: usize, end: usize) -> &[u8]
+    requires { ⌜ (start ≤ end) × (end ≤ length (now bytes)) ⌝ }
+    ensures { λ r. ⌜ (now r ≡ take (end - start) (drop start (now (bytes .entry)))) × InPlace (bytes .entry) start r ⌝ }
+{
+    &bytes[start..end]
+}
