@@ -1,0 +1,3 @@
+pub mod SizeLaws
+pub mod PagesLaws
+pub mod CheckLaws

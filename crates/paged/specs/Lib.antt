@@ -1,0 +1,4 @@
+pub mod Refusal
+pub mod PageSize
+pub mod Pages
+pub mod Checks

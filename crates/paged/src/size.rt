@@ -1,0 +1,28 @@
+// All arithmetic with the page size. Each leaf asks for a page size that passes, and there is no other division by it.
+ghost use mathlib.Core.Path.{_≡_};
+ghost use Prim.Native.Nat.{_/_, _%_, _^_, _<_};
+ghost use Rattle.paged.specs.PageSize.{PageSize, need};
+
+// need(b): the pages that b bytes take.
+pub fn pages_needed_to_store(size: usize, bytes: usize) -> usize
+    requires { ⌜ PageSize size ⌝ }
+    requires { ⌜ bytes < 2 ^ 40 ⌝ }
+    ensures { λ r. ⌜ r ≡ need size bytes ⌝ }
+{
+    (bytes + size - 1) / size
+}
+
+// Which page holds the byte at an offset, and where in that page.
+pub fn page_index(size: usize, offset: usize) -> usize
+    requires { ⌜ PageSize size ⌝ }
+    ensures { λ r. ⌜ r ≡ offset / size ⌝ }
+{
+    offset / size
+}
+
+pub fn place_in_page(size: usize, offset: usize) -> usize
+    requires { ⌜ PageSize size ⌝ }
+    ensures { λ r. ⌜ r ≡ offset % size ⌝ }
+{
+    offset % size
+}
