@@ -6,7 +6,7 @@ use Prim.Native.Nat.{ℕ, _≤_, _<_}
 use native.Mathlib.Omega.{arith}
 use borrow.Author.Tests.{ltb-true, ltb-false}
 use lib.Dec.{ltb}
-use Rattle.outcome.specs.Outcome.{Outcome, ok, refused, _>>=_, _>>_, require}
+use Rattle.outcome.specs.Outcome.{Outcome, ok, refused, _>>=_, _>>_, require, Unchanged}
 
 -- ---- choices
 -- what holds of both branches, each with its test known, holds of the choice
@@ -45,3 +45,11 @@ pub passed : {E : Type 0} (b : Bool) (why : E) {u : Unit {0}} → require b why 
 unfolding require
 passed true why e = refl
 passed false why e = cc
+
+-- ---- handing up: a refusal is passed on, and of a value, which never comes there, nothing is said
+module _ {E A B : Type 0} {x : Outcome E A} {y : Outcome E B} where
+  pub unchanged : {why : E} → x ≡ refused why → y ≡ refused why → Unchanged x y
+  unchanged {why} e f = record { is = λ w g. let h : why ≡ w = cc in f ∙ ap refused h }
+
+  pub unreached : {a : A} → x ≡ ok a → Unchanged x y
+  unreached {a} e = record { is = λ w g. absurd (let z : _≡_ {A = ℕ} 0 1 = cc in omega arith) }
