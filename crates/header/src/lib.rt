@@ -159,7 +159,8 @@ fn location_pages(size: usize, directory: u32) -> usize
     pages_needed_to_store(size, 4 * pages)
 }
 
-fn up(c: Checked) -> Headed
+// A check's refusal as the stage's, handed up unchanged.
+pub fn up(c: Checked) -> Headed
     ensures { λ r. ⌜ Unchanged (checkedIn c) (headedIn r) ⌝ }
 {
     match c {
