@@ -1,6 +1,6 @@
 -- The ways out of steps 4 and 5 and of the stream count; what a reached directory is known to be.
 use mathlib.Core.Path.{_≡_, refl, sym, _∙_, ap}
-use Prim.Native.Nat.{ℕ, _*_, _^_, _≤_, _<_}
+use Prim.Native.Nat.{ℕ, _*_, _/_, _^_, _≤_, _<_}
 use native.Mathlib.Omega.{arith}
 use borrow.Author.Tests.{le-leb, lt-leb}
 use lib.Dec.{leb}
@@ -146,10 +146,10 @@ module _ {f : File} {len : ℕ} {r : Headed} (p : Reaching f len r) where
 
     pub count-short : h .directory < 4 → Counting f len (counted.Refused ShortData)
     unfolding streamCount countedIn require _>>=_ _>>_
-    count-short l = record { answer = rw (reached-is .is, lt-leb 4 (h .directory) l) }
+    count-short l = record { answer = rw (reached-is .is, lt-leb 1 (h .directory / 4) (omega arith)) }
 
     pub count-fine : {n : ℕ} → 4 ≤ h .directory → n ≡ directoryWord f (h .size) 0 → Counting f len (counted.Streams n)
     unfolding streamCount countedIn require _>>=_ _>>_
-    count-fine l g = record { answer = rw (reached-is .is, le-leb 4 (h .directory) l, g) }
+    count-fine l g = record { answer = rw (reached-is .is, le-leb 1 (h .directory / 4) (omega arith), g) }
 
 pub ruleset count-cases = (count-refused, count-short, count-fine)

@@ -1,0 +1,137 @@
+-- The pages of streams, and the ways out of the first part of step 7: the stream's size.
+use mathlib.Core.Path.{_≡_, refl, sym, _∙_, ap}
+use mathlib.Core.Bool.{true, false}
+use Prim.Native.Nat.{ℕ, zero, suc, _+_, _*_, _/_, _^_, _≤_, _<_}
+use native.Mathlib.Omega.{arith}
+use native.Mathlib.Nat.{mul-le-mul-left, le-antisymm}
+use native.Mathlib.Numerals.{add-one}
+use borrow.Author.Tests.{le-leb, lt-leb, le-ltb, lt-ltb, eq-eqb, ne-eqb}
+use lib.Dec.{leb, eqb}
+use mir.Syntax.{w64}
+use mir.Val.{Fits}
+use Rattle.outcome.specs.Outcome.{Outcome, ok, refused, _>>=_, _>>_, require, Unchanged}
+use Rattle.outcome.proofs.OutcomeLaws.{by-test, came, came-by, ok-is}
+use Rattle.parse_buffer.specs.Bytes.{File}
+use Rattle.paged.specs.PageSize.{PageSize, need}
+use Rattle.paged.specs.Pages.{directoryWord}
+use Rattle.paged.proofs.SizeLaws.{need-least}
+use Rattle.paged.specs.declared.refusal.StreamNumber.{StreamNumber}
+use Rattle.paged.specs.declared.refusal.Refusal.{Refusal}
+use Rattle.paged.specs.declared.refusal.Refusal.the-variants.{StreamNotFound, ShortData}
+use Rattle.header.specs.Promises.{headedIn}
+use Rattle.header.specs.declared.Header.{Header}
+use Rattle.header.specs.declared.Headed.{Headed}
+use Rattle.header.specs.declared.Headed.the-variants as headed
+use Rattle.directory.specs.Directory.{reached}
+use Rattle.directory.specs.Promises.{Reaching}
+use Rattle.directory.proofs.DirectoryLaws.{reached-size}
+use Rattle.stream.specs.Stream.{absent, pagesOf, pagesBefore, sized}
+use Rattle.stream.specs.Promises.{presentIn, Before, Sizing}
+use Rattle.stream.specs.declared.Sized.{Sized}
+use Rattle.stream.specs.declared.Present.{Present}
+use Rattle.stream.specs.declared.Present.the-variants as present
+
+-- ---- `pages_of`: an absent stream has none, and a stream of 32 bits at most 2^24
+module _ (p size : ℕ) where
+  pub pages-absent : size ≡ absent → 0 ≡ pagesOf p size
+  unfolding pagesOf
+  pages-absent e = rw (eq-eqb size absent e)
+
+  pub pages-present : {n : ℕ} → (size ≡ absent → ⊥) → n ≡ need p size → n ≡ pagesOf p size
+  unfolding pagesOf
+  pages-present e g = g ∙ rw (ne-eqb size absent e)
+
+pages-few : (p size : ℕ) → PageSize p → size < 2 ^ 32 → pagesOf p size ≤ 2 ^ 24
+unfolding pagesOf
+pages-few p size s h =
+    let l = s .least in
+    let wide : 2 ^ 24 * 0x100 ≤ 2 ^ 24 * p = mul-le-mul-left (2 ^ 24) (s .least) in
+    let few : need p size ≤ 2 ^ 24 = need-least p size (omega arith) (2 ^ 24) (omega arith) in
+    by-test (λ (n : ℕ). n ≤ 2 ^ 24) (eqb size absent) (λ _. omega arith) (λ _. few)
+
+-- ---- `pages_before`
+module _ (f : File) (p : ℕ) where
+  pub before-none : Before f p 0 0
+  unfolding pagesBefore
+  before-none = record { is = refl; small = omega arith }
+
+  module _ {i b : ℕ} (before : Before f p i b) {size n : ℕ} (is : size ≡ directoryWord f p (1 + i)) (pages : n ≡ pagesOf p size) (s : PageSize p) (fits : size < 2 ^ 32) where
+    few : n ≤ 2 ^ 24
+    few = rw pages (pages-few p size s fits)
+
+    pub before-fits : i < 2 ^ 32 → Fits w64 (b + n)
+    before-fits h = record { fits = omega (arith, few, before .small) }
+
+    pub before-more : Before f p (i + 1) (b + n)
+    unfolding pagesBefore
+    before-more =
+        record {
+          is = rw (add-one, before .is, pages, is);
+          small = omega (arith, few, before .small);
+        }
+
+  pub before-all : {i k b : ℕ} → Before f p i b → i ≤ k → k ≤ i → Before f p k b
+  before-all before l m = rw (le-antisymm m l) before
+
+pub ruleset before-cases = (before-none, before-fits, before-more, before-all)
+
+-- ---- the stream's size
+module _ {f : File} {len : ℕ} {r : Headed} (p : Reaching f len r) (stream : StreamNumber) where
+  pub size-refused : {why : Refusal} (x : Present) → r ≡ headed.Refused why → Unchanged (headedIn r) (presentIn x) → Sizing f len (stream .0) x
+  unfolding sized headedIn _>>=_
+  size-refused x e u =
+      let k : reached f len ≡ refused _ = sym (p .answer) ∙ ap headedIn e in
+      record { answer = u .is _ (ap headedIn e) ∙ rw k }
+
+  module _ {h : Header} (e : r ≡ headed.Container h) where
+    reached-is : reached f len ≡ ok h
+    unfolding headedIn
+    reached-is = sym (p .answer) ∙ ap headedIn e
+
+    pub size-size : PageSize (h .size)
+    size-size = reached-size f len reached-is
+
+    pub no-count : h .directory / 4 < 1 → Sizing f len (stream .0) (present.Refused ShortData)
+    unfolding sized presentIn require _>>=_ _>>_
+    no-count l = record { answer = rw (reached-is, lt-leb 1 (h .directory / 4) l) }
+
+    module _ (l₁ : 1 ≤ h .directory / 4) {count : ℕ} (c : count ≡ directoryWord f (h .size) 0) where
+      pub not-below : count ≤ stream .0 → Sizing f len (stream .0) (present.Refused (StreamNotFound stream))
+      unfolding sized presentIn require _>>=_ _>>_
+      not-below l = record { answer = rw (reached-is, le-leb 1 (h .directory / 4) l₁, ← c, le-ltb (stream .0) count l) }
+
+      module _ (l₂ : stream .0 < count) where
+        pub no-size : h .directory / 4 ≤ 1 + stream .0 → Sizing f len (stream .0) (present.Refused ShortData)
+        unfolding sized presentIn require _>>=_ _>>_
+        no-size l =
+            record {
+              answer = rw (reached-is, le-leb 1 (h .directory / 4) l₁, ← c, lt-ltb (stream .0) count l₂, lt-leb (2 + stream .0) (h .directory / 4) (omega arith));
+            }
+
+        module _ (l₃ : 1 + stream .0 < h .directory / 4) {bytes : ℕ} (b : bytes ≡ directoryWord f (h .size) (1 + stream .0)) where
+          pub is-absent : bytes ≡ absent → Sizing f len (stream .0) (present.Refused (StreamNotFound stream))
+          unfolding sized presentIn require _>>=_ _>>_
+          is-absent a =
+              record {
+                answer = rw (reached-is, le-leb 1 (h .directory / 4) l₁, ← c, lt-ltb (stream .0) count l₂, le-leb (2 + stream .0) (h .directory / 4) (omega arith), ← b, eq-eqb bytes absent a);
+              }
+
+          pub is-present : (bytes ≡ absent → ⊥) → Sizing f len (stream .0) (present.Sized (record { header = h; count = count; size = bytes }))
+          unfolding sized presentIn require _>>=_ _>>_
+          is-present a =
+              record {
+                answer = rw (reached-is, le-leb 1 (h .directory / 4) l₁, ← c, lt-ltb (stream .0) count l₂, le-leb (2 + stream .0) (h .directory / 4) (omega arith), ← b, ne-eqb bytes absent a);
+              }
+
+pub ruleset size-cases = (size-refused, no-count, not-below, no-size, is-absent, is-present)
+
+-- ---- the header of a stream's size is the one reached
+pub sized-reached : (f : File) (len k : ℕ) {x : Sized} → sized f len k ≡ ok x → reached f len ≡ ok (x .header)
+unfolding sized
+sized-reached f len k e =
+    came-by _ _ e λ h d e₁.
+    came _ _ e₁ λ _ _ e₂.
+    came _ _ e₂ λ _ _ e₃.
+    came _ _ e₃ λ _ _ e₄.
+    came _ _ e₄ λ _ _ e₅.
+    d ∙ ap (λ (y : Sized). ok (y .header)) (ok-is e₅)

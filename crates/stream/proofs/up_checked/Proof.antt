@@ -1,0 +1,25 @@
+use Rattle.stream.proofs.UpLaws.{up-cases}
+use borrow.Author.Needs.{needs}
+use Rattle.stream.proofs.up_checked.Statement.{statement}
+use Rattle.stream.proofs.up_checked.Tie as tie
+use Rattle.stream.proofs.up_checked.Reads as reads
+use Rattle.stream.proofs.up_checked.Lts as lts
+
+-- src/lib.rt:177:26
+enum-known-c : tie.Need-enum-known-c
+enum-known-c c = search needs
+
+-- src/lib.rt:178:42
+enum-told : tie.Need-enum-told
+enum-told c = search needs
+
+-- src/lib.rt:173:1
+returns : tie.Need-returns
+returns c = search up-cases
+
+-- src/lib.rt:173:1
+returns-2 : tie.Need-returns-2
+returns-2 c = search up-cases
+
+pub up-checked-spec : {M : Type 1} → statement M
+up-checked-spec = tie.close (tie.spec enum-known-c enum-told returns returns-2)
