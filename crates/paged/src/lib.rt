@@ -13,6 +13,7 @@ pub use pages::check_pages;
 pub use pages::directory_word;
 pub use pages::lies_in_file;
 pub use pages::page_at;
+pub use pages::wanted_of;
 pub use refusal::PageNumber;
 pub use refusal::Refusal;
 pub use refusal::StreamNumber;

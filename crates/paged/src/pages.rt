@@ -117,15 +117,24 @@ fn page_end(size: usize, page: u32, i: usize, bytes: usize) -> usize
     ensures { λ r. ⌜ r ≡ page * size + wanted size bytes i ⌝ }
 {
     let start = page as usize * size;
+    start + wanted_of(size, bytes, i)
+}
+
+// Of an object of `bytes` bytes, how many lie in its page i.
+pub fn wanted_of(size: usize, bytes: usize, i: usize) -> usize
+    requires { ⌜ PageSize size ⌝ }
+    requires { ⌜ i < 2 ^ 32 ⌝ }
+    ensures { λ r. ⌜ r ≡ wanted size bytes i ⌝ }
+{
     let before = i * size;
     if bytes <= before {
-        return start;
+        return 0;
     }
     let left = bytes - before;
     if size < left {
-        return start + size;
+        return size;
     }
-    start + left
+    left
 }
 
 fn page_fits(used: u32, page: u32) -> bool

@@ -1,0 +1,2 @@
+pub mod SliceLaws
+pub mod WalkLaws
