@@ -1,6 +1,6 @@
 // All arithmetic with the page size. Each leaf asks for a page size that passes, and there is no other division by it.
 ghost use mathlib.Core.Path.{_≡_};
-ghost use Prim.Native.Nat.{_/_, _%_, _^_, _<_};
+ghost use Prim.Native.Nat.{_/_, _%_, _^_, _<_, min};
 ghost use Rattle.paged.specs.PageSize.{PageSize, need};
 
 // need(b): the pages that b bytes take.
@@ -25,4 +25,14 @@ pub fn place_in_page(size: usize, offset: usize) -> usize
     ensures { λ r. ⌜ r ≡ offset % size ⌝ }
 {
     offset % size
+}
+
+// The smaller of two numbers.
+pub fn least(a: usize, b: usize) -> usize
+    ensures { λ r. ⌜ r ≡ min a b ⌝ }
+{
+    if a < b {
+        return a;
+    }
+    b
 }

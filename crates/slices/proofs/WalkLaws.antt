@@ -243,4 +243,5 @@ module _ {xs : List SourceSlice} {o₀ s₀ o t : List ℕ} (w : Writing xs o₀
   same-sizes = ap length (w .sizes-are) ∙ simp length-sets
 
 pub ruleset walk-cases = (walk-none, walk-near, walk-more, walk-all)
+
 pub ruleset write-cases = (write-none, write-more, write-all)

@@ -105,10 +105,7 @@ fn extend(file: &[u8], size: usize, first: usize, bytes: usize, i: usize, walk: 
     Walk {
         count: walk.count + 1,
         last: page,
-        slice: SourceSlice {
-            offset,
-            size: more,
-        },
+        slice: SourceSlice { offset, size: more },
     }
 }
 

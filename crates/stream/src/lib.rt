@@ -9,9 +9,10 @@ use paged::Refusal;
 use paged::StreamNumber;
 use paged::check_pages;
 use paged::directory_word;
+use paged::least;
 use paged::pages_needed_to_store;
 ghost use mathlib.Core.Path.{_≡_};
-ghost use Prim.Native.Nat.{_^_, _<_, min};
+ghost use Prim.Native.Nat.{_^_, _<_};
 ghost use lib.ListN.{length};
 ghost use Rattle.outcome.specs.Outcome.{Unchanged};
 ghost use Rattle.parse_buffer.specs.Bytes.{byteAt};
@@ -158,15 +159,6 @@ fn pages_of(size: usize, bytes: u32) -> usize
         return 0;
     }
     pages_needed_to_store(size, bytes as usize)
-}
-
-fn least(a: usize, b: usize) -> usize
-    ensures { λ r. ⌜ r ≡ min a b ⌝ }
-{
-    if a < b {
-        return a;
-    }
-    b
 }
 
 // Refusals handed up unchanged.

@@ -6,7 +6,6 @@ use Rattle.stream.proofs.find.Reads as reads
 use Rattle.stream.proofs.find.Lts as lts
 use Rattle.paged.proofs.check_pages.Reads as check-pages-reads
 use Rattle.paged.proofs.pages_needed_to_store.Reads as pages-needed-to-store-reads
-use Rattle.stream.proofs.least.Reads as least-reads
 use Rattle.stream.proofs.list.Reads as list-reads
 use Rattle.stream.proofs.up_checked.Reads as up-checked-reads
 
