@@ -132,3 +132,27 @@ module _ {f : File} {len k : ℕ} {r : Sought} (p : Listing f len k r) where
               }
 
 pub ruleset find-cases = (find-refused, find-bad, find-short, find-fine)
+
+-- ---- what a stream that was found is known to be: its header is the one reached, all its page numbers stand in the
+-- directory, and each of them passed
+pub record Found-at (f : File) (len k : ℕ) (x : Found) : Type 0 where
+  pub listed : listed f len k ≡ ok x
+  pub reached : reached f len ≡ ok (x .header)
+  pub inside : x .first + ownPages x ≤ words (x .header)
+  pub checked : checkPages (x .header .used) (ownPage f x) (ownPages x) ≡ ok tt
+
+pub found-at : (f : File) (len k : ℕ) {x : Found} → found f len k ≡ ok x → Found-at f len k x
+unfolding found
+found-at f len k {x} e =
+    came-by _ _ e λ y l e₁.
+    came _ _ e₁ λ _ c e₂.
+    came _ _ e₂ λ _ i e₃.
+    let same : y ≡ x = ok-is e₃ in
+    let fits : y .first + ownPages y ≤ words (y .header) = leb-true _ _ (passed _ _ i) in
+    let all : min (ownPages y) (words (y .header) - y .first) ≡ ownPages y = omega arith in
+    record {
+      listed = l ∙ e₃;
+      reached = listed-at f len k (l ∙ e₃) .reached;
+      inside = rw (← same) fits;
+      checked = rw (← same) (rw all at c);
+    }

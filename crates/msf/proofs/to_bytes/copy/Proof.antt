@@ -1,3 +1,4 @@
+use Rattle.msf.proofs.CopyLaws.{copied}
 use borrow.Author.Needs.{needs}
 use Rattle.msf.proofs.to_bytes.copy.Statement.{statement}
 use Rattle.msf.proofs.to_bytes.copy.Tie as tie
@@ -47,7 +48,7 @@ same-length c = search needs
 
 -- src/to_bytes.rt:78:1
 returns : tie.Need-returns
-returns c = ?
+returns c = copied _ _ _ _ _ (c .before .before .before .before .before .before .before .pre .0) (c .before .before .before .before .before .before .before .pre .1) _ (c .before .before .copy .ensures .1)
 
 pub copy-spec : {M : Type 1} → statement M
 copy-spec =

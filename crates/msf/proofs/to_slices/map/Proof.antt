@@ -1,3 +1,4 @@
+use Rattle.msf.proofs.PlaceLaws.{map-cases, place-size, length-small, pages-fit, room-offsets, room-sizes}
 use borrow.Author.Needs.{needs}
 use Rattle.msf.proofs.to_slices.map.Statement.{statement}
 use Rattle.msf.proofs.to_slices.map.Tie as tie
@@ -29,7 +30,7 @@ up-requires c κs = search needs
 
 -- src/to_slices.rt:40:9
 returns : tie.Need-returns
-returns c = ?
+returns c = search map-cases
 
 -- src/to_slices.rt:43:16
 cast-size : tie.Need-cast-size
@@ -45,11 +46,11 @@ length-requires c κs = search needs
 
 -- src/to_slices.rt:46:9
 pages-needed-to-store-requires : tie.Need-pages-needed-to-store-requires
-pages-needed-to-store-requires c κs = ?
+pages-needed-to-store-requires c κs = (search place-size, search (length-small, needs))
 
 -- src/to_slices.rt:47:9
 count-slices-requires : tie.Need-count-slices-requires
-count-slices-requires c κs = ?
+count-slices-requires c κs = (search place-size, (search (pages-fit, needs), search needs))
 
 -- src/to_slices.rt:48:9
 least-requires : tie.Need-least-requires
@@ -57,11 +58,11 @@ least-requires c κs = search needs
 
 -- src/to_slices.rt:50:9
 returns-2 : tie.Need-returns-2
-returns-2 c = ?
+returns-2 c = search map-cases
 
 -- src/to_slices.rt:52:5
 write-slices-requires : tie.Need-write-slices-requires
-write-slices-requires c κs = ?
+write-slices-requires c κs = (search place-size, (search (pages-fit, needs), (search needs, (search room-offsets, search room-sizes))))
 
 -- src/to_slices.rt:29:1
 same-length : tie.Need-same-length
@@ -73,7 +74,7 @@ same-length-2 c = search needs
 
 -- src/to_slices.rt:29:1
 returns-3 : tie.Need-returns-3
-returns-3 c = ?
+returns-3 c = search map-cases
 
 pub map-spec : {M : Type 1} → statement M
 map-spec =

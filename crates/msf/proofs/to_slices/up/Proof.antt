@@ -1,3 +1,4 @@
+use Rattle.msf.proofs.UpLaws.{up-cases}
 use borrow.Author.Needs.{needs}
 use Rattle.msf.proofs.to_slices.up.Statement.{statement}
 use Rattle.msf.proofs.to_slices.up.Tie as tie
@@ -14,11 +15,11 @@ enum-told c = search needs
 
 -- src/to_slices.rt:59:1
 returns : tie.Need-returns
-returns c = ?
+returns c = search up-cases
 
 -- src/to_slices.rt:59:1
 returns-2 : tie.Need-returns-2
-returns-2 c = ?
+returns-2 c = search up-cases
 
 pub up-spec : {M : Type 1} → statement M
 up-spec = tie.close (tie.spec enum-known-r enum-told returns returns-2)

@@ -1,3 +1,4 @@
+use Rattle.msf.proofs.PlaceLaws.{limited}
 use borrow.Author.Needs.{needs}
 use Rattle.msf.proofs.limit.Limit.length.Statement.{statement}
 use Rattle.msf.proofs.limit.Limit.length.Tie as tie
@@ -23,7 +24,7 @@ returns c = search needs
 
 -- src/limit.rt:13:5
 returns-2 : tie.Need-returns-2
-returns-2 c = ?
+returns-2 c = search limited
 
 pub length-spec : {M : Type 1} → statement M
 length-spec = tie.close (tie.spec enum-told enum-known-self least-requires returns returns-2)
