@@ -14,17 +14,12 @@ use Rattle.outcome.proofs.OutcomeLaws.{below-or}
 use Rattle.paged.specs.PageSize.{need}
 use Rattle.paged.specs.Checks.{wanted}
 use Rattle.paged.proofs.SizeLaws.{need-covers, need-below, need-least}
-use Rattle.slices.specs.Slices.{lengthen, continues, slicesOf, cut, total}
+use Rattle.slices.specs.Slices.{lengthen, continues, slicesOf, cut, Full, none, one, total}
 use Rattle.slices.specs.declared.SourceSlice.{SourceSlice}
 
 -- one page more: it lengthens the last slice by r bytes, or opens a new one of r bytes
 unfoldable pub push : (ℕ → ℕ) → ℕ → ℕ → ℕ → List SourceSlice → List SourceSlice
 push page p n r slices = cond (continues page n) (lengthen r slices) (slices ++ record { offset = page n * p; size = r } ∷ [])
-
--- no slice is empty
-pub data Full : List SourceSlice → Type 0 where
-  none : Full []
-  one : {s : SourceSlice} {rest : List SourceSlice} → 0 < s .size → Full rest → Full (s ∷ rest)
 
 zero-eqb : (n : ℕ) → 0 < n → eqb n 0 ≡ false
 zero-eqb n h = ne-eqb n 0 (λ e. omega arith)
@@ -75,13 +70,20 @@ cut-all none n h = refl
 cut-all (one {s = x} {rest = xs} p f) n h =
     cut-past x xs n p (omega arith) ∙ rw (cut-all f (n - x .size) (omega arith))
 
+-- ---- the last slice, longer
+pub longer-last : (r : ℕ) (ys : List SourceSlice) (s : SourceSlice) → lengthen r (ys ++ s ∷ []) ≡ ys ++ record { offset = s .offset; size = s .size + r } ∷ []
+unfolding lengthen
+longer-last r [] s = refl
+longer-last r (y ∷ []) s = refl
+longer-last r (y ∷ z ∷ ys) s = ap (λ (l : List SourceSlice). y ∷ l) (longer-last r (z ∷ ys) s)
+
 -- ---- totals, and that no slice is empty
-total-snoc : (xs : List SourceSlice) (s : SourceSlice) → total (xs ++ s ∷ []) ≡ total xs + s .size
+pub total-snoc : (xs : List SourceSlice) (s : SourceSlice) → total (xs ++ s ∷ []) ≡ total xs + s .size
 unfolding total
 total-snoc [] s = omega arith
 total-snoc (x ∷ xs) s = rw (total-snoc xs s) (omega arith)
 
-total-longer : (r : ℕ) (x : SourceSlice) (xs : List SourceSlice) → total (lengthen r (x ∷ xs)) ≡ total (x ∷ xs) + r
+pub total-longer : (r : ℕ) (x : SourceSlice) (xs : List SourceSlice) → total (lengthen r (x ∷ xs)) ≡ total (x ∷ xs) + r
 unfolding total lengthen
 total-longer r x [] = omega arith
 total-longer r x (y ∷ ys) = rw (total-longer r y ys) (omega arith)

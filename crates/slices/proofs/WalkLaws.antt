@@ -17,7 +17,7 @@ use Rattle.paged.specs.Checks.{wanted}
 use Rattle.paged.proofs.SizeLaws.{need-covers}
 use Rattle.slices.specs.Slices.{lengthen, continues, slicesOf, cut}
 use Rattle.slices.specs.Inner.{start, joins, extended, Near, Writing}
-use Rattle.slices.proofs.SliceLaws.{push, pieces, cut-is}
+use Rattle.slices.proofs.SliceLaws.{longer-last, push, pieces, cut-is}
 use Rattle.slices.specs.declared.SourceSlice.{SourceSlice}
 use Rattle.slices.specs.declared.Walk.{Walk}
 
@@ -47,12 +47,6 @@ walked p page bytes (suc i) = extended p (walked p page bytes i) (page i) (wante
 pub record Ends (xs : List SourceSlice) (s : SourceSlice) : Type 0 where
   pub front : List SourceSlice
   pub is : xs ≡ front ++ s ∷ []
-
-longer-last : (r : ℕ) (ys : List SourceSlice) (s : SourceSlice) → lengthen r (ys ++ s ∷ []) ≡ ys ++ record { offset = s .offset; size = s .size + r } ∷ []
-unfolding lengthen
-longer-last r [] s = refl
-longer-last r (y ∷ []) s = refl
-longer-last r (y ∷ z ∷ ys) s = ap (λ (l : List SourceSlice). y ∷ l) (longer-last r (z ∷ ys) s)
 
 length-snoc : (ys : List SourceSlice) (s : SourceSlice) → length (ys ++ s ∷ []) ≡ suc (length ys)
 length-snoc ys s = length-append ys (s ∷ []) ∙ omega arith

@@ -1,5 +1,5 @@
 -- Document 01, "Slices": pages to slices, merged and then cut to the length.
-use Prim.Native.Nat.{ℕ, zero, suc, _+_, _-_, _*_, min}
+use Prim.Native.Nat.{ℕ, zero, suc, _+_, _-_, _*_, min, _<_}
 use mathlib.Core.Bool.{Bool, false, cond}
 use mathlib.Core.List.{List, [], _∷_, _++_}
 use lib.Dec.{ltb, eqb}
@@ -29,6 +29,11 @@ unfoldable pub cut : ℕ → List SourceSlice → List SourceSlice
 cut n [] = []
 cut n (s ∷ rest) =
     cond (eqb n 0) [] (record { offset = s .offset; size = min (s .size) n } ∷ cut (n - s .size) rest)
+
+-- no slice is empty
+pub data Full : List SourceSlice → Type 0 where
+  none : Full []
+  one : {s : SourceSlice} {rest : List SourceSlice} → 0 < s .size → Full rest → Full (s ∷ rest)
 
 -- how many bytes the slices have, and where byte i of them, laid end to end, stands in the file
 unfoldable pub total : List SourceSlice → ℕ
