@@ -103,20 +103,27 @@ module _ (f : File) (p : ℕ) (page : ℕ → ℕ) where
 pub through-digits : (p : ℕ) (page : ℕ → ℕ) (i j : ℕ) → j < p → through p page (i * p + j) ≡ page i * p + j
 through-digits p page i j h = rw (digits-div i h, digits-mod i h)
 
--- a store whose first bytes are these, and whose others are as they were
-pub sets-by-bytes : (o₀ o vs : List ℕ) → length o ≡ length o₀ → length vs ≤ length o₀ → ((k : ℕ) → k < length vs → getD o k 0 ≡ getD vs k 0) → ((k : ℕ) → length vs ≤ k → getD o k 0 ≡ getD o₀ k 0) → o ≡ sets o₀ 0 vs
-sets-by-bytes o₀ o vs same fits first rest =
-    let e : sets o₀ 0 vs ≡ vs ++ drop (0 + length vs) o₀ = sets-eq vs o₀ 0 (omega arith) in
-    ext-getD 0 o (sets o₀ 0 vs) (same ∙ sym (length-sets o₀ 0 vs))
-    (λ k _.
-    ⊎-elim
-    (λ (l : k < length vs). first k l ∙ sym (ap (λ (x : List ℕ). getD x k 0) e ∙ List·getD-append vs _ 0 k l))
-    (λ (l : length vs ≤ k).
-    let m : k ≡ length vs + (k - length vs) = omega arith in
-    let z : 0 + length vs + (k - length vs) ≡ k = omega arith in
-    rest k l
-    ∙ sym (ap (λ (x : List ℕ). getD x k 0) e ∙ ap (λ (x : ℕ). getD (vs ++ drop (0 + length vs) o₀) x 0) m ∙ getD-append-add vs _ (k - length vs) 0 ∙ getD-drop (0 + length vs) o₀ (k - length vs) 0 ∙ rw z))
-    (below-or k (length vs)))
+-- a store whose first bytes were set to these: its first bytes, and the others
+module _ (o vs : List ℕ) (fits : length vs ≤ length o) where
+  set-is : sets o 0 vs ≡ vs ++ drop (0 + length vs) o
+  set-is = sets-eq vs o 0 (omega arith)
+
+  pub sets-first : (k : ℕ) → k < length vs → getD (sets o 0 vs) k 0 ≡ getD vs k 0
+  sets-first k l = ap (λ (x : List ℕ). getD x k 0) set-is ∙ List·getD-append vs _ 0 k l
+
+  pub sets-beyond : (k : ℕ) → length vs ≤ k → getD (sets o 0 vs) k 0 ≡ getD o k 0
+  sets-beyond k l =
+      let m : k ≡ length vs + (k - length vs) = omega arith in
+      let z : 0 + length vs + (k - length vs) ≡ k = omega arith in
+      ap (λ (x : List ℕ). getD x k 0) set-is ∙ ap (λ (x : ℕ). getD (vs ++ drop (0 + length vs) o) x 0) m ∙ getD-append-add vs _ (k - length vs) 0 ∙ getD-drop (0 + length vs) o (k - length vs) 0 ∙ rw z
+
+  pub sets-by-bytes : {o′ : List ℕ} → length o′ ≡ length o → ((k : ℕ) → k < length vs → getD o′ k 0 ≡ getD vs k 0) → ((k : ℕ) → length vs ≤ k → getD o′ k 0 ≡ getD o k 0) → o′ ≡ sets o 0 vs
+  sets-by-bytes {o′} same first rest =
+      ext-getD 0 o′ (sets o 0 vs) (same ∙ sym (length-sets o 0 vs))
+      (λ k _.
+      ⊎-elim (λ (l : k < length vs). first k l ∙ sym (sets-first k l))
+      (λ (l : length vs ≤ k). rest k l ∙ sym (sets-beyond k l))
+      (below-or k (length vs)))
 
 -- ---- page after page
 module _ (s : List ℕ) (p : ℕ) (page : ℕ → ℕ) (size : ℕ) where
@@ -177,7 +184,7 @@ module _ (s : List ℕ) (p : ℕ) (page : ℕ → ℕ) (size : ℕ) where
       let e : i ≡ n = le-antisymm l m in
       let covers : size ≤ i * p = rw (e, whole) (need-covers p size (omega arith)) in
       let long : length (bytesThrough (byteAt s) p page size) ≡ size = through-length (byteAt s) p page size in
-      sets-by-bytes o₀ o (bytesThrough (byteAt s) p page size) (c .same) (omega arith)
+      sets-by-bytes o₀ (bytesThrough (byteAt s) p page size) (omega arith) (c .same)
       (λ k h. c .done k (omega arith) (omega arith) ∙ sym (through-at (byteAt s) p page size k (omega arith)))
       (λ k h. c .rest k (omega arith))
 

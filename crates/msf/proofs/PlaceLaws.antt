@@ -41,7 +41,7 @@ use Rattle.msf.specs.declared.to_bytes.Extracted.the-variants as extract
 pub limited : {l : Limit} {n r : ℕ} (size : ℕ) → l ≡ AtMost n → r ≡ min size n → r ≡ lengthOf l size
 limited size e g = g ∙ rw e
 
-length-most : (l : Limit) (size : ℕ) → lengthOf l size ≤ size
+pub length-most : (l : Limit) (size : ℕ) → lengthOf l size ≤ size
 length-most None size = omega arith
 length-most (AtMost n) size = omega arith
 
@@ -173,4 +173,5 @@ module _ {f : File} {len k : ℕ} (limit : Limit) {r : Sought} (p : Finding f le
                 }
 
 pub ruleset map-cases = (map-none, map-no-room, map-fine)
+
 pub ruleset extract-cases = (extract-none, extract-ends, extract-no-room, extract-fine)

@@ -1,9 +1,10 @@
 -- The ways out of the rest of step 7: the skips, and the stream's own page numbers.
 use mathlib.Core.Path.{_≡_, refl, sym, _∙_, ap}
+use mathlib.Core.Bool.{Bool, true, false}
 use Prim.Native.Nat.{ℕ, _+_, _-_, _*_, _/_, _^_, min, _≤_, _<_}
 use native.Mathlib.Omega.{arith}
-use borrow.Author.Tests.{le-leb, lt-leb, leb-true}
-use lib.Dec.{leb}
+use borrow.Author.Tests.{le-leb, lt-leb, leb-true, not-true}
+use lib.Dec.{leb, eqb}
 use mir.Syntax.{w64}
 use mir.Val.{Fits}
 use Rattle.outcome.specs.Outcome.{Outcome, ok, refused, _>>=_, _>>_, require, Unchanged}
@@ -19,7 +20,7 @@ use Rattle.paged.specs.declared.pages.Checked.{Checked}
 use Rattle.paged.specs.declared.pages.Checked.the-variants as checked
 use Rattle.directory.specs.Directory.{words, reached}
 use Rattle.directory.proofs.DirectoryLaws.{reached-size}
-use Rattle.stream.specs.Stream.{pagesBefore, firstOf, ownPage, ownPages, sized, listed, found}
+use Rattle.stream.specs.Stream.{absent, sizeAt, pagesOf, pagesBefore, firstOf, ownPage, ownPages, sized, listed, found}
 use Rattle.stream.specs.Promises.{presentIn, soughtIn, Before, Sizing, Listing, Finding}
 use Rattle.stream.proofs.StreamLaws.{sized-reached}
 use Rattle.stream.specs.declared.Found.{Found}
@@ -156,3 +157,37 @@ found-at f len k {x} e =
       inside = rw (← same) fits;
       checked = rw (← same) (rw all at c);
     }
+
+-- its entries begin where the count, the sizes and the pages of the streams before it end, and are as many as its size says
+module _ (f : File) (len k : ℕ) where
+  pub record Sized-at (x : Sized) : Type 0 where
+    pub count : x .count ≡ directoryWord f (x .header .size) 0
+    pub size : x .size ≡ sizeAt f (x .header .size) k
+    pub present : eqb (x .size) absent ≡ false
+
+  pub sized-at : {x : Sized} → sized f len k ≡ ok x → Sized-at x
+  unfolding sized
+  sized-at e =
+      came-by _ _ e λ h d e₁.
+      came _ _ e₁ λ _ _ e₂.
+      came _ _ e₂ λ _ _ e₃.
+      came _ _ e₃ λ _ _ e₄.
+      came _ _ e₄ λ _ a e₅.
+      rw (← ok-is e₅) (record { count = refl; size = refl; present = not-true _ (passed _ _ a) })
+
+  pub record First-at (x : Found) : Type 0 where
+    pub first : x .first ≡ firstOf f (x .header .size) (directoryWord f (x .header .size) 0) k
+    pub pages : ownPages x ≡ pagesOf (x .header .size) (sizeAt f (x .header .size) k)
+
+  pub first-at : {x : Found} → listed f len k ≡ ok x → First-at x
+  unfolding listed pagesOf
+  first-at e =
+      came-by _ _ e λ y s e₁.
+      came _ _ e₁ λ _ _ e₂.
+      came _ _ e₂ λ _ _ e₃.
+      let z = sized-at s in
+      rw (← ok-is e₃)
+      (record {
+        first = rw (z .count) refl;
+        pages = rw (← z .size, z .present);
+      })

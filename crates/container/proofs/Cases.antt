@@ -1,0 +1,21 @@
+-- The (P) cases on file F, by computation.
+use mathlib.Core.Path.{refl}
+use lib.Count
+use Rattle.outcome.specs.Outcome.{_>>=_, _>>_, require}
+use Rattle.outcome.specs.Each.{each}
+use Rattle.parse_buffer.specs.Bytes.{word}
+use Rattle.paged.specs.PageSize.{sizeFits, need}
+use Rattle.paged.specs.Pages.{location, directoryPage, directoryWord}
+use Rattle.paged.specs.Checks.{pageFits}
+use Rattle.header.specs.Header.{standsAt, sized, headed, located}
+use Rattle.directory.specs.Directory.{reached}
+use Rattle.stream.specs.Stream as stream
+use Rattle.stream.specs.Stream.{pagesOf, pagesBefore, listed, found}
+use Rattle.slices.specs.Slices.{lengthen, slicesOf, cut, placeOf}
+use Rattle.msf.specs.Msf.{placed, mapping}
+use Rattle.container.specs.FileF.{fileF, F}
+use Rattle.container.specs.Cases.{Cases, mappingF}
+
+pub cases : Cases
+unfolding mappingF F fileF _>>=_ _>>_ require each word sizeFits need location directoryPage directoryWord pageFits standsAt sized headed located reached pagesOf pagesBefore stream.sized listed found lengthen slicesOf cut placeOf placed mapping Count.ones Count.onesIn
+cases = record { size = refl; two = refl; byte = refl; zero = refl; one = refl; three = refl }

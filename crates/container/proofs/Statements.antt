@@ -1,0 +1,186 @@
+-- The statements on the container, each proved under the name of its record.
+use mathlib.Core.Path.{_≡_, refl, sym, _∙_, ap}
+use mathlib.Core.List.{List}
+use Prim.Native.Nat.{ℕ, zero, suc, _+_, _-_, _*_, _/_, _%_, _≤_, _<_}
+use native.Mathlib.Omega.{arith}
+use native.Mathlib.Decide.{le-ind}
+use native.Mathlib.Numerals.{add-one}
+use borrow.Author.Tests.{leb-true}
+use lib.Dec.{leb}
+use lib.ListN.{length, getD}
+use lib.Seq.{sets}
+use Rattle.outcome.specs.Outcome.{Outcome, ok, refused, _>>=_, _>>_, require}
+use Rattle.outcome.specs.Refusal as paper
+use Rattle.outcome.specs.Store.{written}
+use Rattle.outcome.proofs.OutcomeLaws.{came, came-by, ok-is, passed}
+use Rattle.outcome.proofs.OnlyLaws.{only, only₂, only₃}
+use Rattle.parse_buffer.specs.Bytes.{File}
+use Rattle.parse_buffer.specs.Parse.{parseU32, parsedIn}
+use Rattle.paged.specs.PageSize.{PageSize, need}
+use Rattle.paged.specs.Pages.{directoryWord, through}
+use Rattle.paged.proofs.SizeLaws.{need-covers, need-least, word-in-page}
+use Rattle.header.specs.Promises.{openedIn, opening}
+use Rattle.directory.specs.Directory.{streamCount}
+use Rattle.directory.specs.Promises.{countedIn}
+use Rattle.directory.proofs.DirectoryLaws.{reached-size}
+use Rattle.stream.specs.Stream as stream
+use Rattle.stream.specs.Stream.{absent, sizeAt, pagesOf, pagesBefore, firstOf, ownPage, ownPages, listed, found}
+use Rattle.stream.specs.declared.Found.{Found}
+use Rattle.stream.specs.declared.Sized.{Sized}
+use Rattle.stream.proofs.FindLaws.{Found-at, found-at, First-at, first-at}
+use Rattle.slices.specs.Slices.{Full, total, placeOf}
+use Rattle.slices.proofs.EndToEndLaws.{slices-full, slices-total, slices-place}
+use Rattle.msf.specs.Msf.{lengthOf, Placed, placed, slicesIn, mapping, bytesThrough, bytesIn, readable, extraction}
+use Rattle.msf.specs.Promises.{mappedIn, extractedIn, lengthIn, Maps, Extracts}
+use Rattle.msf.proofs.CopyLaws.{through-length, through-at, sets-first, sets-beyond}
+use Rattle.msf.proofs.PlaceLaws.{length-most}
+use Rattle.msf.specs.declared.limit.Limit.{Limit}
+use Rattle.msf.specs.declared.to_bytes.Extracted.{Extracted}
+use Rattle.container.specs.Statements.{SingleValued, Extracted-from, TheByte, TheSlices, Pages-needed, Own}
+use Rattle.container.proofs.Told.{told}
+
+pub single-valued : SingleValued
+single-valued =
+    record {
+      parse-u32 = λ s at a b p q. only parsedIn (told .parsed) (parseU32 s at) a b (p .answer) (q .answer);
+      opening = λ f len a b p q. only openedIn (told .opened) (opening f len) a b (p .answer) (q .answer);
+      stream-count = λ f len a b p q. only countedIn (told .counted) (streamCount f len) a b (p .answer) (q .answer);
+      map = λ f len k limit o t a b x y u v p q.
+          only₃ mappedIn (told .mapped) _ _ _ a b x y u v (p .answer, p .offsets-after, p .sizes-after) (q .answer, q .offsets-after, q .sizes-after);
+      extract = λ f len k limit o a b x y p q.
+          only₂ extractedIn (told .extracted) _ _ a b x y (p .answer, p .after) (q .answer, q .after);
+    }
+
+-- ---- what is placed is of a stream that was found
+record Placed-at (f : File) (len k : ℕ) (limit : Limit) (x : Placed) : Type 0 where
+  found : found f len k ≡ ok (x .found)
+  size : x .size ≡ lengthOf limit (x .found .size)
+
+placed-at : (f : File) (len k : ℕ) (limit : Limit) {x : Placed} → placed f len k limit ≡ ok x → Placed-at f len k limit x
+unfolding placed
+placed-at f len k limit {x} e =
+    came-by _ _ e λ y g e₁.
+    let same = ok-is e₁ in
+    record {
+      found = g ∙ ap (λ (z : Placed). ok (z .found)) same;
+      size = rw (← same) refl;
+    }
+
+-- ---- the byte
+record Extraction-at (f : File) (len k : ℕ) (limit : Limit) (room : ℕ) (x : Placed) : Type 0 where
+  placed : placed f len k limit ≡ ok x
+  fits : x .size ≤ room
+
+extraction-at : (f : File) (len k : ℕ) (limit : Limit) (room : ℕ) {x : Placed} → extraction f len k limit room ≡ ok x → Extraction-at f len k limit room x
+unfolding extraction readable
+extraction-at f len k limit room {x} e =
+    came-by _ _ e λ y r e₁.
+    came _ _ e₁ λ _ l e₂.
+    came-by _ _ r λ z p r₁.
+    came _ _ r₁ λ _ _ r₂.
+    let same : y ≡ x = ok-is e₂ in
+    record {
+      placed = p ∙ r₂ ∙ e₂;
+      fits = rw (← same) (leb-true _ _ (passed _ _ l));
+    }
+
+-- an answer that is a length came of an extraction that was accepted
+accepted : (o : Outcome paper.Refusal Placed) {n : ℕ} → lengthIn o ≡ ok n → (x : Placed) × ((o ≡ ok x) × (x .size ≡ n))
+unfolding lengthIn _>>=_
+accepted (ok x) e = (x, (refl, ok-is e))
+accepted (refused why) e = absurd (let z : _≡_ {A = ℕ} 0 1 = cc in omega arith)
+
+extracted-from : (f : File) (len k : ℕ) (limit : Limit) (out : List ℕ) (r : Extracted) (out′ : List ℕ) → Extracts f len k limit out r out′ → (n : ℕ) → extractedIn r ≡ ok n → Extracted-from f len k limit out out′ n
+unfolding written
+extracted-from f len k limit out r out′ p n e =
+    let a = accepted (extraction f len k limit (length out)) (sym (p .answer) ∙ e) in
+    let x : Placed = a .0 in
+    let is : extraction f len k limit (length out) ≡ ok x = a .1 .0 in
+    let size : x .size ≡ n = a .1 .1 in
+    let at = extraction-at f len k limit (length out) is in
+    let pl = placed-at f len k limit (at .placed) in
+    let fits = at .fits in
+    let P : ℕ = x .found .header .size in
+    let long : length (bytesIn f x) ≡ x .size = through-length f P (ownPage f (x .found)) (x .size) in
+    let after : out′ ≡ sets out 0 (bytesIn f x) = p .after ∙ ap (λ (o : Outcome paper.Refusal Placed). written o (bytesIn f) out) is in
+    record {
+      stream = x .found;
+      is = pl .found;
+      size = sym size ∙ pl .size;
+      byte = λ i h.
+          ap (λ (l : List ℕ). getD l i 0) after ∙ sets-first out (bytesIn f x) (omega arith) i (omega arith) ∙ through-at f P (ownPage f (x .found)) (x .size) i (omega arith);
+      beyond = λ i h. ap (λ (l : List ℕ). getD l i 0) after ∙ sets-beyond out (bytesIn f x) (omega arith) i (omega arith);
+    }
+
+pub the-byte : TheByte
+the-byte = record { is = extracted-from }
+
+-- ---- the slices
+mapping-placed : (f : File) (len k : ℕ) (limit : Limit) (room : ℕ) {x : Placed} → mapping f len k limit room ≡ ok x → placed f len k limit ≡ ok x
+unfolding mapping
+mapping-placed f len k limit room e =
+    came-by _ _ e λ y p e₁.
+    came _ _ e₁ λ _ _ e₂.
+    p ∙ e₂
+
+module _ (f : File) (len k : ℕ) (limit : Limit) (room : ℕ) {x : Placed} (e : mapping f len k limit room ≡ ok x) where
+  at : Placed-at f len k limit x
+  at = placed-at f len k limit (mapping-placed f len k limit room e)
+
+  large : 0 < x .found .header .size
+  large = let s = reached-size f len (found-at f len k (at .found) .reached) .least in omega arith
+
+  held : x .size ≤ ownPages (x .found) * x .found .header .size
+  held =
+      let c = need-covers (x .found .header .size) (x .found .size) large in
+      let m : x .size ≤ x .found .size = rw (at .size) (length-most limit (x .found .size)) in
+      omega arith
+
+  is-full : Full (slicesIn f x)
+  is-full = slices-full (x .found .header .size) (ownPage f (x .found)) large (ownPages (x .found)) (x .size) held
+
+  is-total : total (slicesIn f x) ≡ x .size
+  is-total = slices-total (x .found .header .size) (ownPage f (x .found)) large (ownPages (x .found)) (x .size) held
+
+  is-place : (i : ℕ) → i < x .size → placeOf (slicesIn f x) i ≡ through (x .found .header .size) (ownPage f (x .found)) i
+  is-place = slices-place (x .found .header .size) (ownPage f (x .found)) large (ownPages (x .found)) (x .size) held
+
+pub the-slices : TheSlices
+the-slices =
+    record {
+      full = λ f len k limit room e. is-full f len k limit room e;
+      size = λ f len k limit room e. is-total f len k limit room e;
+      place = λ f len k limit room e. is-place f len k limit room e;
+    }
+
+pub pages-needed : Pages-needed
+pages-needed =
+    record {
+      enough = λ p b h. need-covers p b h;
+      least = λ p b n h l. need-least p b h n l;
+      word = word-in-page;
+    }
+
+-- ---- each stream's own
+first-follows : (f : File) (p count k : ℕ) → firstOf f p count (k + 1) ≡ firstOf f p count k + pagesOf p (sizeAt f p k)
+unfolding pagesBefore
+first-follows f p count k = rw add-one (omega arith)
+
+first-rises : (f : File) (p count j k : ℕ) → j ≤ k → firstOf f p count j ≤ firstOf f p count k
+first-rises f p count j k h =
+    le-ind (λ (m : ℕ). firstOf f p count j ≤ firstOf f p count m) (omega arith)
+    (λ m _ l. let e = first-follows f p count m in rw (← add-one m) (omega arith)) k h
+
+found-first : (f : File) (len k : ℕ) {x : Found} → found f len k ≡ ok x → (x .first ≡ firstOf f (x .header .size) (directoryWord f (x .header .size) 0) k) × (ownPages x ≡ pagesOf (x .header .size) (sizeAt f (x .header .size) k))
+found-first f len k e = let x = first-at f len k (found-at f len k e .listed) in (x .first, x .pages)
+
+pub own : Own
+unfolding pagesOf
+own =
+    record {
+      follows = first-follows;
+      disjoint = λ f p count j k h. let e = first-follows f p count j in let r = first-rises f p count (j + 1) k (omega arith) in omega arith;
+      none = λ p. refl;
+      empty = λ p s. let l = s .least in let e = need-least p 0 (omega arith) 0 (omega arith) in omega arith;
+      found = λ f len k e. found-first f len k e;
+    }

@@ -1,0 +1,36 @@
+-- Document 01, "File F and other checks": the (P) cases on the container. proofs/Cases.antt proves them by computation.
+use mathlib.Core.Path.{_≡_}
+use mathlib.Core.List.{List, [], _∷_}
+use Prim.Native.Nat.{ℕ}
+use lib.ListN.{length}
+use Rattle.outcome.specs.Outcome.{Outcome, ok, refused, _>>=_}
+use Rattle.outcome.specs.Refusal as paper
+use Rattle.slices.specs.Slices.{placeOf}
+use Rattle.slices.specs.declared.SourceSlice.{SourceSlice}
+use Rattle.msf.specs.Msf.{Placed, slicesIn, mapping}
+use Rattle.msf.specs.declared.limit.Limit.the-variants.{None}
+use Rattle.container.specs.FileF.{fileF, F}
+
+-- what mapping a stream of F answers, with room for eight slices and no limit: the slices and the length
+pub record Answer : Type 0 where
+  pub slices : List SourceSlice
+  pub size : ℕ
+
+unfoldable pub mappingF : ℕ → Outcome paper.Refusal Answer
+mappingF k = do
+  x ← mapping F (length fileF) k None 8
+  ok (record { slices = slicesIn F x; size = x .size })
+
+abbrev at : ℕ → ℕ → SourceSlice
+at offset size = record { offset = offset; size = size }
+
+abbrev notFound : ℕ → Outcome paper.Refusal Answer
+notFound k = refused (record { number = 5; value = k })
+
+pub record Cases : Type 0 where
+  pub size : length fileF ≡ 6144
+  pub two : mappingF 2 ≡ ok (record { slices = at 2560 512 ∷ at 1280 88 ∷ []; size = 600 })
+  pub byte : placeOf (at 2560 512 ∷ at 1280 88 ∷ []) 599 ≡ 1367
+  pub zero : mappingF 0 ≡ ok (record { slices = at 5120 300 ∷ []; size = 300 })
+  pub one : mappingF 1 ≡ notFound 1
+  pub three : mappingF 3 ≡ notFound 3

@@ -1,0 +1,3 @@
+pub mod Statements
+pub mod FileF
+pub mod Cases

@@ -1,0 +1,72 @@
+-- What holds of the container's operations beyond their promises. proofs/ has a proof of each record.
+use mathlib.Core.Path.{_≡_}
+use mathlib.Core.List.{List}
+use Prim.Native.Nat.{ℕ, _+_, _*_, _/_, _%_, _≤_, _<_}
+use lib.ListN.{length, getD}
+use Rattle.outcome.specs.Outcome.{Outcome, ok}
+use Rattle.outcome.specs.Only.{Only, Only₂, Only₃, Injective}
+use Rattle.parse_buffer.specs.Bytes.{File}
+use Rattle.parse_buffer.specs.Parse.{parsedIn, Parsing}
+use Rattle.paged.specs.Refusal.{refusalIn}
+use Rattle.paged.specs.PageSize.{PageSize, need}
+use Rattle.paged.specs.Pages.{directoryWord, through}
+use Rattle.header.specs.Promises.{openedIn, Opening}
+use Rattle.directory.specs.Promises.{countedIn, Counting}
+use Rattle.stream.specs.Stream.{absent, sizeAt, pagesOf, firstOf, ownPage, ownPages, found}
+use Rattle.stream.specs.declared.Found.{Found}
+use Rattle.slices.specs.Slices.{Full, total, placeOf}
+use Rattle.msf.specs.Msf.{lengthOf, Placed, slicesIn, mapping}
+use Rattle.msf.specs.Promises.{mappedIn, extractedIn, Maps, Extracts}
+use Rattle.msf.specs.declared.limit.Limit.{Limit}
+use Rattle.msf.specs.declared.to_bytes.Extracted.{Extracted}
+
+-- what an answer says on paper tells it from every other answer
+pub record Told : Type 0 where
+  pub refusal : Injective refusalIn
+  pub parsed : Injective parsedIn
+  pub opened : Injective openedIn
+  pub counted : Injective countedIn
+  pub mapped : Injective mappedIn
+  pub extracted : Injective extractedIn
+
+-- no second answer, and no other store, satisfies a promise
+pub record SingleValued : Type 0 where
+  pub parse-u32 : (s : List ℕ) (at : ℕ) → Only (Parsing s at)
+  pub opening : (f : File) (len : ℕ) → Only (Opening f len)
+  pub stream-count : (f : File) (len : ℕ) → Only (Counting f len)
+  pub map : (f : File) (len k : ℕ) (limit : Limit) (offsets sizes : List ℕ) → Only₃ (Maps f len k limit offsets sizes)
+  pub extract : (f : File) (len k : ℕ) (limit : Limit) (out : List ℕ) → Only₂ (Extracts f len k limit out)
+
+-- demand 2: an accepted extraction of length n is of a stream x found as stream k; its byte i is file byte
+-- page (i / P) * P + i mod P, where `page` is stream k's own entries in the directory; and past n nothing changed
+pub record Extracted-from (f : File) (len k : ℕ) (limit : Limit) (out out′ : List ℕ) (n : ℕ) : Type 0 where
+  pub stream : Found
+  pub is : found f len k ≡ ok stream
+  pub size : n ≡ lengthOf limit (stream .size)
+  pub byte : (i : ℕ) → i < n → getD out′ i 0 ≡ f (ownPage f stream (i / stream .header .size) * stream .header .size + i % stream .header .size)
+  pub beyond : (i : ℕ) → n ≤ i → getD out′ i 0 ≡ getD out i 0
+
+pub record TheByte : Type 0 where
+  pub is : (f : File) (len k : ℕ) (limit : Limit) (out : List ℕ) (r : Extracted) (out′ : List ℕ) → Extracts f len k limit out r out′ → (n : ℕ) → extractedIn r ≡ ok n → Extracted-from f len k limit out out′ n
+
+-- the slices of an accepted mapping: none is empty, they have the answered length, and laid end to end they name the
+-- stream's bytes in their order
+pub record TheSlices : Type 0 where
+  pub full : (f : File) (len k : ℕ) (limit : Limit) (room : ℕ) {x : Placed} → mapping f len k limit room ≡ ok x → Full (slicesIn f x)
+  pub size : (f : File) (len k : ℕ) (limit : Limit) (room : ℕ) {x : Placed} → mapping f len k limit room ≡ ok x → total (slicesIn f x) ≡ x .size
+  pub place : (f : File) (len k : ℕ) (limit : Limit) (room : ℕ) {x : Placed} → mapping f len k limit room ≡ ok x → (i : ℕ) → i < x .size → placeOf (slicesIn f x) i ≡ through (x .found .header .size) (ownPage f (x .found)) i
+
+-- need(b) is the least number of pages that hold b bytes; no word crosses a page
+pub record Pages-needed : Type 0 where
+  pub enough : (p b : ℕ) → 0 < p → b ≤ need p b * p
+  pub least : (p b n : ℕ) → 0 < p → b ≤ n * p → need p b ≤ n
+  pub word : (p i : ℕ) → PageSize p → 4 * i % p + 4 ≤ p
+
+-- each stream's own: the entry ranges follow the sizes in stream order, and those of two streams are disjoint. Absent
+-- sizes take no pages; a size of 0 is present and empty
+pub record Own : Type 0 where
+  pub follows : (f : File) (p count k : ℕ) → firstOf f p count (k + 1) ≡ firstOf f p count k + pagesOf p (sizeAt f p k)
+  pub disjoint : (f : File) (p count j k : ℕ) → j < k → firstOf f p count j + pagesOf p (sizeAt f p j) ≤ firstOf f p count k
+  pub none : (p : ℕ) → pagesOf p absent ≡ 0
+  pub empty : (p : ℕ) → PageSize p → pagesOf p 0 ≡ 0
+  pub found : (f : File) (len k : ℕ) {x : Found} → found f len k ≡ ok x → (x .first ≡ firstOf f (x .header .size) (directoryWord f (x .header .size) 0) k) × (ownPages x ≡ pagesOf (x .header .size) (sizeAt f (x .header .size) k))
