@@ -1,19 +1,16 @@
+-- The invariant: the walk stands after i pages, and the stores hold their slices. Putting the last slice in its place again gives
+-- the slices of one page more (`WalkLaws`). Assumes what `count_slices` does, and that the slices fit both stores.
 use mathlib.Core.Path.{_≡_}
 use Prim.Native.Nat.{_≤_, _-_}
 use native.Mathlib.Omega.{arith}
 use borrow.Author.Needs.{needs}
 use Rattle.parse_buffer.specs.Bytes.{byteAt}
-use Rattle.slices.specs.Inner.{streamPage}
 use Rattle.slices.specs.Inner.{Writing}
+use Rattle.slices.specs.Inner.{streamPage}
 use Rattle.slices.proofs.SliceLaws.{pieces}
 use Rattle.slices.proofs.WalkLaws.{walked, walk-cases, write-cases, write-more, put-some, room-offsets, room-sizes, same-offsets, same-sizes}
 use Rattle.slices.proofs.write_slices.Statement.{statement}
 use Rattle.slices.proofs.write_slices.Tie as tie
-use Rattle.slices.proofs.write_slices.Reads as reads
-use Rattle.slices.proofs.write_slices.Lts as lts
-use Rattle.slices.proofs.begin.Reads as begin-reads
-use Rattle.slices.proofs.extend.Reads as extend-reads
-use Rattle.slices.proofs.put.Reads as put-reads
 
 abbrev Inv-loop : tie.InvT-loop
 Inv-loop file size first bytes n offsets₀ sizes₀ walk₀ i₀ offsets sizes walk i = (i ≤ n) × (walk ≡ walked size (streamPage (byteAt file) size first) bytes i) × Writing (pieces size (streamPage (byteAt file) size first) bytes i) offsets₀ sizes₀ offsets sizes
@@ -21,45 +18,35 @@ Inv-loop file size first bytes n offsets₀ sizes₀ walk₀ i₀ offsets sizes 
 abbrev μ-loop : tie.MeasureT-loop
 μ-loop file size first bytes n offsets₀ sizes₀ walk₀ i₀ offsets sizes walk i = n - i
 
--- src/lib.rt:65:9
 begin-requires : tie.Need-begin-requires Inv-loop μ-loop
 begin-requires c κs = search needs
 
--- src/lib.rt:67:5
 loop-holds : tie.Need-loop-holds Inv-loop μ-loop
 loop-holds c = (omega arith, search walk-cases, search write-cases)
 
--- src/lib.rt:68:9
 extend-requires : tie.Need-extend-requires Inv-loop μ-loop
 extend-requires c κs = (search needs, (omega arith, search walk-cases))
 
--- src/lib.rt:69:9
 put-requires : tie.Need-put-requires Inv-loop μ-loop
 put-requires c κs = (search (put-some, walk-cases), (search (room-offsets, walk-cases), search (room-sizes, walk-cases)))
 
--- src/lib.rt:70:9
 add-i : tie.Need-add-i Inv-loop μ-loop
 add-i c = search needs
 
--- src/lib.rt:67:5
 loop-less : tie.Need-loop-less Inv-loop μ-loop
 loop-less c = search needs
 
--- src/lib.rt:67:5
 loop-again : tie.Need-loop-again Inv-loop μ-loop
 loop-again c =
     let inv = c .before .before .before .before .before .before .before .before .before .loop .inv in
     (omega arith, search walk-cases, write-more _ _ _ _ (inv .1) (c .before .before .before .before .before .before .before .extend .ensures) (inv .2) (c .before .before .before .before .put .ensures))
 
--- src/lib.rt:49:1
 same-length : tie.Need-same-length Inv-loop μ-loop
 same-length c = search same-offsets
 
--- src/lib.rt:49:1
 same-length-2 : tie.Need-same-length-2 Inv-loop μ-loop
 same-length-2 c = search same-sizes
 
--- src/lib.rt:49:1
 returns : tie.Need-returns Inv-loop μ-loop
 returns c = search write-cases
 

@@ -1,25 +1,20 @@
+-- A page of at most the largest size starts below 2^55, so the sum fits.
+-- Assumes a page size that passes, and an index of 32 bits.
 use native.Mathlib.Omega.{arith}
-use Rattle.paged.proofs.SizeLaws.{at-most-largest}
 use borrow.Author.Needs.{needs}
+use Rattle.paged.proofs.SizeLaws.{at-most-largest}
 use Rattle.paged.proofs.pages.page_end.Statement.{statement}
 use Rattle.paged.proofs.pages.page_end.Tie as tie
-use Rattle.paged.proofs.pages.page_end.Reads as reads
-use Rattle.paged.proofs.pages.page_end.Lts as lts
-use Rattle.paged.proofs.pages.wanted_of.Reads as wanted-of-reads
 
--- src/pages.rt:119:17
 mul-start : tie.Need-mul-start
 mul-start c = omega (arith, at-most-largest (c .args .page) (c .pre .0))
 
--- src/pages.rt:120:13
 wanted-of-requires : tie.Need-wanted-of-requires
 wanted-of-requires c κs = search needs
 
--- src/pages.rt:120:5
 add-result : tie.Need-add-result
 add-result c = omega (arith, at-most-largest (c .before .args .page) (c .before .pre .0))
 
--- src/pages.rt:114:1
 returns : tie.Need-returns
 returns c = search needs
 

@@ -1,0 +1,131 @@
+-- Stage by stage, each over the smallest list: two files that agree on the listed bytes give the same outcome. Each proof
+-- follows its stage's `do` block line by line: `then-same` and `bind-same` hand on that the line is reached, which is what a
+-- list asks.
+use mathlib.Core.Path.{_≡_, refl, sym, _∙_, ap}
+use mathlib.Core.Bool.{Bool, true, false, cond}
+use mathlib.Core.Logic.{⊎-elim}
+use mathlib.Core.List.{List, [], _∷_, _++_, map}
+use Prim.Native.Nat.{ℕ, zero, suc, _+_, _-_, _*_, _/_, _%_, min, _≤_, _<_}
+use native.Mathlib.Omega.{arith}
+use native.Mathlib.Nat.{le-refl}
+use borrow.Author.Tests.{leb-true, ltb-true, le-leb}
+use lib.Dec.{ltb, leb, eqb}
+use lib.ListN.{length}
+use Rattle.outcome.specs.Outcome.{Outcome, ok, refused, _>>=_, _>>_, require}
+use Rattle.outcome.specs.Refusal as paper
+use Rattle.outcome.proofs.OutcomeLaws.{below-or, passed, came, came-by, ok-is}
+use Rattle.outcome.proofs.EachLaws.{each-same}
+use Rattle.parse_buffer.specs.Bytes.{File, word}
+use Rattle.parse_buffer.proofs.WordLaws.{word-same}
+use Rattle.paged.specs.Refusal.{refusalIn}
+use Rattle.paged.specs.PageSize.{PageSize, need}
+use Rattle.paged.specs.Pages.{through, firstEntry, location, directoryPage, directoryWord}
+use Rattle.paged.specs.Checks.{pageFits, checkPages, wanted, liesInFile}
+use Rattle.paged.specs.declared.refusal.Refusal.the-variants.{UnimplementedFeature, UnrecognizedFileFormat, PageReferenceOutOfRange}
+use Rattle.paged.proofs.SizeLaws.{need-index}
+use Rattle.header.specs.Header.{bigMagic, smallMagic, standsAt, entries, headerOf, directoryPages, locationPages, headed, located}
+use Rattle.header.specs.declared.Header.{Header}
+use Rattle.header.proofs.BlockLaws.{stands-same}
+use Rattle.header.proofs.OpenLaws.{Located, is-located}
+use Rattle.directory.specs.Directory.{words, holds, reached, streamCount}
+use Rattle.directory.proofs.DirectoryLaws.{reached-located, reached-size}
+use Rattle.stream.specs.Stream as stream
+use Rattle.stream.specs.Stream.{sizeAt, pagesOf, pagesBefore, firstOf, ownPage, ownPages, listed, found}
+use Rattle.stream.specs.declared.Sized.{Sized}
+use Rattle.stream.specs.declared.Found.{Found}
+use Rattle.isolation.specs.Listed.{InWord, entryPlace, wordPlace, ListedOpen, ListedCount, Listed, Agree}
+
+-- ---- what holds of any stage
+pub bind-same : {E A B : Type 0} {x y : Outcome E A} {k l : A → Outcome E B} → x ≡ y → ((a : A) → x ≡ ok a → k a ≡ l a) → x >>= k ≡ y >>= l
+unfolding _>>=_
+bind-same {x = ok a} {k} {l} e h = h a refl ∙ ap (λ z. z >>= l) e
+bind-same {x = refused why} {k} {l} e h = ap (λ z. z >>= l) e
+
+pub then-same : {E A B : Type 0} {x y : Outcome E A} {n m : Outcome E B} → x ≡ y → ((a : A) → x ≡ ok a → n ≡ m) → x >> n ≡ y >> m
+unfolding _>>_
+then-same {x = ok a} {m} e h = h a refl ∙ ap (λ z. z >> m) e
+then-same {x = refused why} {m} e h = ap (λ z. z >> m) e
+
+word-in : {f g : File} {at : ℕ} → ((i : ℕ) → InWord at i → f i ≡ g i) → word f at ≡ word g at
+word-in h = word-same (λ i l m. h i (l, m))
+
+check-same : (used : ℕ) {p q : ℕ → ℕ} (n : ℕ) → ((j : ℕ) → j < n → p j ≡ q j) → checkPages used p n ≡ checkPages used q n
+check-same used n h = each-same n (λ j l. rw (h j l)) (λ j l. rw (h j l))
+
+lies-same : (len p size : ℕ) {a b : ℕ → ℕ} (n : ℕ) → ((j : ℕ) → j < n → a j ≡ b j) → liesInFile len p a size n ≡ liesInFile len p b size n
+lies-same len p size n h = each-same n (λ j l. rw (h j l)) (λ j l. refl)
+
+-- ---- opening
+module _ (f g : File) (len : ℕ) (agree : Agree (ListedOpen f len) f g) where
+  header-same : headerOf f ≡ headerOf g
+  header-same =
+      rw (
+        word-in {at = 32} (λ i w. agree i (ListedOpen.start (omega (arith, w .0, w .1)))),
+        word-in {at = 40} (λ i w. agree i (ListedOpen.fields (w .0) (omega (arith, w .1)))),
+        word-in {at = 44} (λ i w. agree i (ListedOpen.fields (omega (arith, w .0)) (omega (arith, w .1)))),
+      )
+
+  big-same : standsAt f 0 bigMagic ≡ standsAt g 0 bigMagic
+  big-same = stands-same 0 bigMagic (λ i l m. agree i (ListedOpen.start (omega arith)))
+
+  small-listed : (i : ℕ) → standsAt f 0 bigMagic ≡ false → i < 42 → ListedOpen f len i
+  small-listed i e m =
+      ⊎-elim (λ l. ListedOpen.start l)
+      (λ l. ⊎-elim (λ l′. ListedOpen.small e l l′) (λ l′. ListedOpen.fields l′ (omega arith)) (below-or i 40))
+      (below-or i 36)
+
+  -- where the big magic stands the small one is not asked; where it does not, bytes 36 to 39 are listed too
+  magic-by : (b : Bool) → standsAt f 0 bigMagic ≡ b → require b (refusalIn (cond (standsAt f 0 smallMagic) UnimplementedFeature UnrecognizedFileFormat)) ≡ require b (refusalIn (cond (standsAt g 0 smallMagic) UnimplementedFeature UnrecognizedFileFormat))
+  unfolding require
+  magic-by true e = refl
+  magic-by false e = rw (stands-same 0 smallMagic (λ i l m. agree i (small-listed i e m)))
+
+  magic-same : require (standsAt f 0 bigMagic) (refusalIn (cond (standsAt f 0 smallMagic) UnimplementedFeature UnrecognizedFileFormat)) ≡ require (standsAt g 0 bigMagic) (refusalIn (cond (standsAt g 0 smallMagic) UnimplementedFeature UnrecognizedFileFormat))
+  magic-same = rw (← big-same) (magic-by (standsAt f 0 bigMagic) refl)
+
+  headed-same : headed f len ≡ headed g len
+  unfolding headed
+  headed-same =
+      rw (← header-same)
+      (then-same refl λ _ _.
+      then-same magic-same λ _ _.
+      refl)
+
+  location-listed : {h : Header} → headed f len ≡ ok h → (j : ℕ) → j < min (locationPages h) entries → location f j ≡ location g j
+  unfolding location
+  location-listed o j l = word-in λ i w. agree i (ListedOpen.locations o l w)
+
+  pub located-same : located f len ≡ located g len
+  unfolding located
+  located-same =
+      bind-same headed-same λ h o.
+      then-same (check-same _ _ (location-listed o)) λ _ _.
+      refl
+
+  pub location-same : {h : Header} → located f len ≡ ok h → (j : ℕ) → j < locationPages h → location f j ≡ location g j
+  location-same o j l =
+      let x = is-located f len o in
+      let few = x .few in
+      location-listed (x .headed) j (omega arith)
+
+-- ---- the stream count
+module _ (f g : File) (len : ℕ) (agree : Agree (ListedCount f len) f g) where
+  opens : Agree (ListedOpen f len) f g
+  opens i l = agree i (ListedCount.opening l)
+
+  module _ {h : Header} (o : located f len ≡ ok h) (inside : liesInFile len (h .size) (location f) (4 * directoryPages h) (locationPages h) ≡ ok tt) where
+    entry-same : (j : ℕ) → j < directoryPages h → directoryPage f (h .size) j ≡ directoryPage g (h .size) j
+    unfolding directoryPage
+    entry-same j l =
+        let s = is-located f len o .size .least in
+        rw (← location-same f g len opens o (4 * j / h .size) (need-index (h .size) (4 * directoryPages h) (omega arith) (4 * j) (omega arith)))
+        (word-in λ i w. agree i (ListedCount.list o inside l w))
+
+  pub reached-same : reached f len ≡ reached g len
+  unfolding reached
+  reached-same =
+      bind-same (located-same f g len opens) λ h o.
+      then-same (lies-same _ _ _ _ (location-same f g len opens o)) λ _ inside.
+      then-same (check-same _ _ (entry-same o inside)) λ _ _.
+      then-same (lies-same _ _ _ _ (entry-same o inside)) λ _ _.
+      refl
