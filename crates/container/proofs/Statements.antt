@@ -43,6 +43,7 @@ pub single-valued : SingleValued
 single-valued =
     record {
       parse-u32 = λ s at a b p q. only parsedIn (told .parsed) (parseU32 s at) a b (p .answer) (q .answer);
+      take = λ s at n a b p q. (p .bytes ∙ sym (q .bytes), (q .place .0 ∙ sym (p .place .0), omega (arith, p .place .1, q .place .1)));
       opening = λ f len a b p q. only openedIn (told .opened) (opening f len) a b (p .answer) (q .answer);
       stream-count = λ f len a b p q. only countedIn (told .counted) (streamCount f len) a b (p .answer) (q .answer);
       map = λ f len k limit o t a b x y u v p q.
@@ -123,14 +124,14 @@ mapping-placed f len k limit room e =
     came _ _ e₁ λ _ _ e₂.
     p ∙ e₂
 
-module _ (f : File) (len k : ℕ) (limit : Limit) (room : ℕ) {x : Placed} (e : mapping f len k limit room ≡ ok x) where
+module _ (f : File) (len k : ℕ) (limit : Limit) {x : Placed} (e : placed f len k limit ≡ ok x) where
   at : Placed-at f len k limit x
-  at = placed-at f len k limit (mapping-placed f len k limit room e)
+  at = placed-at f len k limit e
 
-  large : 0 < x .found .header .size
+  pub large : 0 < x .found .header .size
   large = let s = reached-size f len (found-at f len k (at .found) .reached) .least in omega arith
 
-  held : x .size ≤ ownPages (x .found) * x .found .header .size
+  pub held : x .size ≤ ownPages (x .found) * x .found .header .size
   held =
       let c = need-covers (x .found .header .size) (x .found .size) large in
       let m : x .size ≤ x .found .size = rw (at .size) (length-most limit (x .found .size)) in
@@ -139,18 +140,18 @@ module _ (f : File) (len k : ℕ) (limit : Limit) (room : ℕ) {x : Placed} (e :
   is-full : Full (slicesIn f x)
   is-full = slices-full (x .found .header .size) (ownPage f (x .found)) large (ownPages (x .found)) (x .size) held
 
-  is-total : total (slicesIn f x) ≡ x .size
+  pub is-total : total (slicesIn f x) ≡ x .size
   is-total = slices-total (x .found .header .size) (ownPage f (x .found)) large (ownPages (x .found)) (x .size) held
 
-  is-place : (i : ℕ) → i < x .size → placeOf (slicesIn f x) i ≡ through (x .found .header .size) (ownPage f (x .found)) i
+  pub is-place : (i : ℕ) → i < x .size → placeOf (slicesIn f x) i ≡ through (x .found .header .size) (ownPage f (x .found)) i
   is-place = slices-place (x .found .header .size) (ownPage f (x .found)) large (ownPages (x .found)) (x .size) held
 
 pub the-slices : TheSlices
 the-slices =
     record {
-      full = λ f len k limit room e. is-full f len k limit room e;
-      size = λ f len k limit room e. is-total f len k limit room e;
-      place = λ f len k limit room e. is-place f len k limit room e;
+      full = λ f len k limit room e. is-full f len k limit (mapping-placed f len k limit room e);
+      size = λ f len k limit room e. is-total f len k limit (mapping-placed f len k limit room e);
+      place = λ f len k limit room e. is-place f len k limit (mapping-placed f len k limit room e);
     }
 
 pub pages-needed : Pages-needed

@@ -3,10 +3,11 @@ use mathlib.Core.Path.{_≡_}
 use mathlib.Core.List.{List}
 use Prim.Native.Nat.{ℕ, _+_, _*_, _/_, _%_, _≤_, _<_}
 use lib.ListN.{length, getD}
+use denote.Ref.{RefT, now}
 use Rattle.outcome.specs.Outcome.{Outcome, ok}
 use Rattle.outcome.specs.Only.{Only, Only₂, Only₃, Injective}
 use Rattle.parse_buffer.specs.Bytes.{File}
-use Rattle.parse_buffer.specs.Parse.{parsedIn, Parsing}
+use Rattle.parse_buffer.specs.Parse.{parsedIn, Parsing, InPlace, Taking}
 use Rattle.paged.specs.Refusal.{refusalIn}
 use Rattle.paged.specs.PageSize.{PageSize, need}
 use Rattle.paged.specs.Pages.{directoryWord, through}
@@ -32,6 +33,8 @@ pub record Told : Type 0 where
 -- no second answer, and no other store, satisfies a promise
 pub record SingleValued : Type 0 where
   pub parse-u32 : (s : List ℕ) (at : ℕ) → Only (Parsing s at)
+  -- the same bytes at the same place of memory
+  pub take : (s : RefT (List ℕ)) (at n : ℕ) (a b : RefT (List ℕ)) → Taking s at n a → Taking s at n b → (now a ≡ now b) × InPlace a 0 b
   pub opening : (f : File) (len : ℕ) → Only (Opening f len)
   pub stream-count : (f : File) (len : ℕ) → Only (Counting f len)
   pub map : (f : File) (len k : ℕ) (limit : Limit) (offsets sizes : List ℕ) → Only₃ (Maps f len k limit offsets sizes)

@@ -28,6 +28,7 @@ use Rattle.header.proofs.HeaderLaws.{headed-long, headed-size}
 use Rattle.header.specs.declared.Header.{Header}
 use Rattle.header.specs.declared.Headed.{Headed}
 use Rattle.header.specs.declared.Headed.the-variants.{Container, Refused}
+use Rattle.header.specs.declared.Opened.{Opened}
 use Rattle.header.specs.declared.Opened.the-variants as opened
 
 -- ---- `location_pages`: a directory's pages are at most its bytes
@@ -106,12 +107,23 @@ module _ {s b : RefT (List ℕ)} (t : Taking s 0 headerBlock b) {r : Headed} (p 
 pub ruleset locate-cases = (locate-refused, many-bad, many-short, few-bad, few-fine)
 
 -- ---- `open`
+module _ {r : Headed} where
+  pub up-open-refused : {why : Refusal} → r ≡ Refused why → Unchanged (headedIn r) (openedIn (opened.Refused why))
+  unfolding headedIn openedIn
+  up-open-refused e = unchanged (ap headedIn e) refl
+
+  pub up-open-container : {h : Header} (x : Opened) → r ≡ Container h → Unchanged (headedIn r) (openedIn x)
+  unfolding headedIn
+  up-open-container x e = unreached (ap headedIn e)
+
+pub ruleset up-open-cases = (up-open-refused, up-open-container)
+
 module _ {f : File} {len : ℕ} {r : Headed} (p : Locating f len r) where
-  pub open-refused : {why : Refusal} → r ≡ Refused why → Opening f len (opened.Refused why)
-  unfolding opening headedIn openedIn _>>=_
-  open-refused e =
+  pub open-refused : {why : Refusal} {x : Opened} → r ≡ Refused why → Unchanged (headedIn r) (openedIn x) → Opening f len x
+  unfolding opening headedIn _>>=_
+  open-refused e u =
       let k : located f len ≡ refused _ = sym (p .answer) ∙ ap headedIn e in
-      record { answer = rw k }
+      record { answer = u .is _ (ap headedIn e) ∙ rw k }
 
   pub open-fine : {h : Header} → r ≡ Container h → Opening f len (opened.Container (record { size = h .size; used = h .used }))
   unfolding opening headedIn openedIn _>>=_

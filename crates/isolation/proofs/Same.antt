@@ -13,6 +13,7 @@ use lib.Dec.{ltb, leb, eqb}
 use lib.ListN.{length}
 use Rattle.outcome.specs.Outcome.{Outcome, ok, refused, _>>=_, _>>_, require}
 use Rattle.outcome.specs.Refusal as paper
+use Rattle.outcome.specs.Store.{written}
 use Rattle.outcome.proofs.OutcomeLaws.{below-or, passed, came, came-by, ok-is}
 use Rattle.outcome.proofs.EachLaws.{each-same}
 use Rattle.parse_buffer.specs.Bytes.{File, word}
@@ -46,13 +47,18 @@ unfolding _>>_
 then-same {x = ok a} {m} e h = h a refl ∙ ap (λ z. z >> m) e
 then-same {x = refused why} {m} e h = ap (λ z. z >> m) e
 
+pub written-same : {E A B : Type 0} {x y : Outcome E A} (s t : A → List B) (store : List B) → x ≡ y → ((a : A) → x ≡ ok a → s a ≡ t a) → written x s store ≡ written y t store
+unfolding written
+written-same {x = ok a} s t store e h = rw (h a refl) (ap (λ z. written z t store) e)
+written-same {x = refused why} s t store e h = ap (λ z. written z t store) e
+
 word-in : {f g : File} {at : ℕ} → ((i : ℕ) → InWord at i → f i ≡ g i) → word f at ≡ word g at
 word-in h = word-same (λ i l m. h i (l, m))
 
-check-same : (used : ℕ) {p q : ℕ → ℕ} (n : ℕ) → ((j : ℕ) → j < n → p j ≡ q j) → checkPages used p n ≡ checkPages used q n
+pub check-same : (used : ℕ) {p q : ℕ → ℕ} (n : ℕ) → ((j : ℕ) → j < n → p j ≡ q j) → checkPages used p n ≡ checkPages used q n
 check-same used n h = each-same n (λ j l. rw (h j l)) (λ j l. rw (h j l))
 
-lies-same : (len p size : ℕ) {a b : ℕ → ℕ} (n : ℕ) → ((j : ℕ) → j < n → a j ≡ b j) → liesInFile len p a size n ≡ liesInFile len p b size n
+pub lies-same : (len p size : ℕ) {a b : ℕ → ℕ} (n : ℕ) → ((j : ℕ) → j < n → a j ≡ b j) → liesInFile len p a size n ≡ liesInFile len p b size n
 lies-same len p size n h = each-same n (λ j l. rw (h j l)) (λ j l. refl)
 
 -- ---- opening
@@ -129,3 +135,32 @@ module _ (f g : File) (len : ℕ) (agree : Agree (ListedCount f len) f g) where
       then-same (check-same _ _ (entry-same o inside)) λ _ _.
       then-same (lies-same _ _ _ _ (entry-same o inside)) λ _ _.
       refl
+
+  reached-inside : {h : Header} → reached f len ≡ ok h → liesInFile len (h .size) (location f) (4 * directoryPages h) (locationPages h) ≡ ok tt
+  unfolding reached
+  reached-inside {h} e =
+      came-by _ _ e λ h₀ _ e₁.
+      came _ _ e₁ λ _ inside e₂.
+      came _ _ e₂ λ _ _ e₃.
+      came _ _ e₃ λ _ _ e₄.
+      let same : h₀ ≡ h = ok-is e₄ in
+      rw (← same) inside
+
+  module _ {h : Header} (d : reached f len ≡ ok h) where
+    -- a word that the directory holds: its page number is the same, and so the word, where its own four bytes are listed
+    pub held-same : (w : ℕ) → w < words h → ((i : ℕ) → InWord (wordPlace f h w) i → f i ≡ g i) → directoryWord f (h .size) w ≡ directoryWord g (h .size) w
+    unfolding directoryWord
+    held-same w t same =
+        let s = reached-size f len d .least in
+        rw (← entry-same (reached-located f len d) (reached-inside d) (4 * w / h .size) (need-index (h .size) (h .directory) (omega arith) (4 * w) (omega arith)))
+        (word-in same)
+
+    pub count-same : holds h 1 ≡ true → directoryWord f (h .size) 0 ≡ directoryWord g (h .size) 0
+    count-same t = held-same 0 (leb-true _ _ t) (λ i w. agree i (ListedCount.count d t w))
+
+  pub streamCount-same : streamCount f len ≡ streamCount g len
+  unfolding streamCount
+  streamCount-same =
+      bind-same reached-same λ h d.
+      then-same refl λ _ t.
+      rw (count-same d (passed _ _ t))

@@ -11,6 +11,7 @@ use Rattle.outcome.specs.Each.{each}
 use Rattle.outcome.proofs.EachLaws.{each-none, each-more, each-stops, each-all}
 use Rattle.paged.specs.Refusal.{refusalIn}
 use Rattle.paged.specs.Checks.{pageFits, checkPages, wanted, liesInFile, checkedIn}
+use Rattle.paged.specs.declared.refusal.PageNumber.{PageNumber}
 use Rattle.paged.specs.declared.refusal.Refusal.{Refusal}
 use Rattle.paged.specs.declared.refusal.Refusal.the-variants.{PageReferenceOutOfRange, FileEnds}
 use Rattle.paged.specs.declared.pages.Checked.{Checked}
@@ -32,11 +33,11 @@ module _ (used : ℕ) (page : ℕ → ℕ) where
   check-none = each-none _ _
 
   -- the next page, read as v and judged
-  module _ {i v : ℕ} {b : Bool} (before : checkPages used page i ≡ ok tt) (is : v ≡ page i) (judged : b ≡ pageFits used v) where
+  module _ {i : ℕ} {v : PageNumber} {b : Bool} (before : checkPages used page i ≡ ok tt) (is : v .0 ≡ page i) (judged : b ≡ pageFits used (v .0)) where
     pub check-more : not b ≡ false → checkPages used page (i + 1) ≡ ok tt
     check-more y = each-more _ _ before (ap (pageFits used) (sym is) ∙ sym judged ∙ not-false b y)
 
-    pub check-stops : {n : ℕ} → i < n → not b ≡ true → checkedIn (Refused (PageReferenceOutOfRange (record { 0 = v }))) ≡ checkPages used page n
+    pub check-stops : {n : ℕ} → i < n → not b ≡ true → checkedIn (Refused (PageReferenceOutOfRange v)) ≡ checkPages used page n
     unfolding checkedIn
     check-stops {n} l y =
         rw is (sym (each-stops _ _ before (ap (pageFits used) (sym is) ∙ sym judged ∙ not-true b y) n l))

@@ -12,6 +12,9 @@ ghost use Rattle.paged.specs.PageSize.{PageSize};
 ghost use Rattle.paged.specs.Pages.{through, location, directoryPage, directoryWord, pageOf, entryOf};
 ghost use Rattle.paged.specs.Checks.{pageFits, wanted, checkPages, liesInFile, checkedIn};
 
+// The location entries follow the header's 52 bytes.
+const FIRST_ENTRY: usize = 52;
+
 // Which pages: of the location list, of the directory, or of a stream whose first entry is this word of the directory.
 pub enum Pages {
     Location,
@@ -34,7 +37,7 @@ pub fn check_pages(file: &[u8], size: usize, used: u32, pages: Pages, n: usize) 
     while i < n {
         let page = page_at(file, size, pages, i);
         if !page_fits(used, page) {
-            return Checked::Refused(Refusal::PageReferenceOutOfRange(PageNumber(page)));
+            return Checked::Refused(Refusal::PageReferenceOutOfRange(page));
         }
         i += 1;
     }
@@ -61,15 +64,15 @@ pub fn lies_in_file(file: &[u8], size: usize, pages: Pages, bytes: usize, n: usi
 }
 
 // Entry i of the list.
-pub fn page_at(file: &[u8], size: usize, pages: Pages, i: usize) -> u32
+pub fn page_at(file: &[u8], size: usize, pages: Pages, i: usize) -> PageNumber
     requires { ⌜ PageSize size ⌝ }
     requires { ⌜ entryOf pages i < 2 ^ 32 ⌝ }
-    ensures { λ r. ⌜ r ≡ pageOf (byteAt (now (file .entry))) size pages i ⌝ }
+    ensures { λ r. ⌜ r .0 ≡ pageOf (byteAt (now (file .entry))) size pages i ⌝ }
 {
     match pages {
         Pages::Location => location_at(file, i),
         Pages::Directory => directory_page(file, size, i),
-        Pages::Stream(first) => directory_word(file, size, first + i),
+        Pages::Stream(first) => PageNumber(directory_word(file, size, first + i)),
     }
 }
 
@@ -84,39 +87,39 @@ pub fn directory_word(file: &[u8], size: usize, w: usize) -> u32
     word_at(file, place(size, page, offset))
 }
 
-fn directory_page(file: &[u8], size: usize, i: usize) -> u32
+fn directory_page(file: &[u8], size: usize, i: usize) -> PageNumber
     requires { ⌜ PageSize size ⌝ }
     requires { ⌜ i < 2 ^ 32 ⌝ }
-    ensures { λ r. ⌜ r ≡ directoryPage (byteAt (now (file .entry))) size i ⌝ }
+    ensures { λ r. ⌜ r .0 ≡ directoryPage (byteAt (now (file .entry))) size i ⌝ }
 {
     let offset = 4 * i;
     let page = location_at(file, page_index(size, offset));
-    word_at(file, place(size, page, offset))
+    PageNumber(word_at(file, place(size, page, offset)))
 }
 
-fn location_at(file: &[u8], j: usize) -> u32
+fn location_at(file: &[u8], j: usize) -> PageNumber
     requires { ⌜ j < 2 ^ 32 ⌝ }
-    ensures { λ r. ⌜ r ≡ location (byteAt (now (file .entry))) j ⌝ }
+    ensures { λ r. ⌜ r .0 ≡ location (byteAt (now (file .entry))) j ⌝ }
 {
-    word_at(file, 52 + 4 * j)
+    PageNumber(word_at(file, FIRST_ENTRY + 4 * j))
 }
 
 // Where the byte at an offset stands, in this page.
-fn place(size: usize, page: u32, offset: usize) -> usize
+fn place(size: usize, page: PageNumber, offset: usize) -> usize
     requires { ⌜ PageSize size ⌝ }
-    ensures { λ r. ⌜ r ≡ page * size + offset % size ⌝ }
+    ensures { λ r. ⌜ r ≡ page .0 * size + offset % size ⌝ }
 {
-    let start = page as usize * size;
+    let start = page.0 as usize * size;
     start + place_in_page(size, offset)
 }
 
 // Where what is wanted of page i ends in the file.
-fn page_end(size: usize, page: u32, i: usize, bytes: usize) -> usize
+fn page_end(size: usize, page: PageNumber, i: usize, bytes: usize) -> usize
     requires { ⌜ PageSize size ⌝ }
     requires { ⌜ i < 2 ^ 32 ⌝ }
-    ensures { λ r. ⌜ r ≡ page * size + wanted size bytes i ⌝ }
+    ensures { λ r. ⌜ r ≡ page .0 * size + wanted size bytes i ⌝ }
 {
-    let start = page as usize * size;
+    let start = page.0 as usize * size;
     start + wanted_of(size, bytes, i)
 }
 
@@ -137,11 +140,11 @@ pub fn wanted_of(size: usize, bytes: usize, i: usize) -> usize
     left
 }
 
-fn page_fits(used: u32, page: u32) -> bool
-    ensures { λ r. ⌜ r ≡ pageFits used page ⌝ }
+fn page_fits(used: u32, page: PageNumber) -> bool
+    ensures { λ r. ⌜ r ≡ pageFits used (page .0) ⌝ }
 {
-    if page == 0 {
+    if page.0 == 0 {
         return false;
     }
-    page <= used
+    page.0 <= used
 }

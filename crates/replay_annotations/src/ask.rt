@@ -1,10 +1,10 @@
 // One question to the library, and the digest of what it answers: the number and the steps at a place, and all of the
 // bytes decoded into stores of several rooms. Each answer begins with the number of its case.
-use crate::digest::Digest;
 use annotations::Decoded;
 use annotations::Refusal;
 use annotations::Step;
 use annotations::Uncompressed;
+use replay::Digest;
 
 const NUMBER: u64 = 1;
 
@@ -76,8 +76,9 @@ fn step(walk: Walk, bytes: &[u8]) -> Walk {
             let annotation = a.annotation;
             let t = annotation.triple();
             let kind = d.plain(ANNOTATION).plain(0).plain(t.opcode as u64);
+            let placed = kind.signed(t.first).signed(t.second).plain(a.next as u64);
             Walk {
-                digest: kind.signed(t.first).signed(t.second).plain(a.next as u64),
+                digest: placed.plain(flag(annotation.emits_line_info())),
                 at: a.next,
                 ended: false,
             }
@@ -93,6 +94,11 @@ fn step(walk: Walk, bytes: &[u8]) -> Walk {
             ended: false,
         },
     }
+}
+
+// Whether a line record is emitted, as a word.
+fn flag(emits: bool) -> u64 {
+    if emits { 1 } else { 0 }
 }
 
 // All of the bytes decoded, once for each room.

@@ -1,6 +1,8 @@
 // The header of a record: 20 bytes, its numbers little-endian (`tests/differential/README.md` has the format).
 use crate::ask::Question;
-use crate::digest::Digest;
+use replay::Digest;
+use replay::half;
+use replay::word;
 
 const LARGEST_ROOM: usize = 6200;
 
@@ -18,16 +20,16 @@ pub struct Header {
 
 pub fn parse(h: &[u8; 20]) -> Header {
     Header {
-        length: number(h[0], h[1]),
+        length: half(h[0], h[1]),
         question: Question {
-            at: number(h[2], h[3]),
-            low: number(h[4], h[5]),
-            high: number(h[6], h[7]),
+            at: half(h[2], h[3]),
+            low: half(h[4], h[5]),
+            high: half(h[6], h[7]),
         },
         sweep: h[8] == 1,
         digest: Digest {
-            a: lane(h[12], h[13], h[14], h[15]),
-            b: lane(h[16], h[17], h[18], h[19]),
+            a: word(h[12], h[13], h[14], h[15]),
+            b: word(h[16], h[17], h[18], h[19]),
         },
         well_formed: h[8] < 2 && h[9] == 0 && h[10] == 0 && h[11] == 0,
     }
@@ -42,17 +44,4 @@ impl Header {
         }
         self.well_formed && q.low <= q.high && q.high <= LARGEST_ROOM
     }
-
-    pub fn agrees(self, d: Digest) -> bool {
-        let recorded = self.digest;
-        recorded.a == d.a && recorded.b == d.b
-    }
-}
-
-fn number(low: u8, high: u8) -> usize {
-    low as usize + high as usize * 256
-}
-
-fn lane(b0: u8, b1: u8, b2: u8, b3: u8) -> u64 {
-    b0 as u64 + b1 as u64 * 0x100 + b2 as u64 * 0x10000 + b3 as u64 * 0x1000000
 }

@@ -15,6 +15,7 @@ use Rattle.outcome.proofs.OutcomeLaws.{by-test}
 use Rattle.paged.specs.PageSize.{PageSize, need}
 use Rattle.paged.specs.Checks.{wanted}
 use Rattle.paged.proofs.SizeLaws.{need-covers}
+use Rattle.paged.specs.declared.refusal.PageNumber.{PageNumber}
 use Rattle.slices.specs.Slices.{lengthen, continues, slicesOf, cut}
 use Rattle.slices.specs.Inner.{start, joins, extended, Near, Writing}
 use Rattle.slices.proofs.SliceLaws.{longer-last, push, pieces, cut-is}
@@ -29,12 +30,12 @@ module _ (count last page : ℕ) where
   pub some-before : (count ≡ 0 → ⊥) → eqb page (last + 1) ≡ joins count last page
   some-before z = rw (ne-eqb count 0 z)
 
-module _ (p : ℕ) (w : Walk) {page page′ n n′ : ℕ} {b : Bool} (is : page ≡ page′) (more : n ≡ n′) (j : b ≡ joins (w .count) (w .last) page) where
+module _ (p : ℕ) (w : Walk) {page : PageNumber} {page′ n n′ : ℕ} {b : Bool} (is : page .0 ≡ page′) (more : n ≡ n′) (j : b ≡ joins (w .count) (w .last .0) (page .0)) where
   pub longer : b ≡ true → record { count = w .count; last = page; slice = record { offset = w .slice .offset; size = w .slice .size + n } } ≡ extended p w page′ n′
   unfolding extended
   longer y = rw (← is, ← more, ← j, y)
 
-  pub opened : b ≡ false → record { count = w .count + 1; last = page; slice = record { offset = page * p; size = n } } ≡ extended p w page′ n′
+  pub opened : b ≡ false → record { count = w .count + 1; last = page; slice = record { offset = page .0 * p; size = n } } ≡ extended p w page′ n′
   unfolding extended
   opened y = rw (← is, ← more, ← j, y)
 
@@ -81,12 +82,12 @@ module _ (p : ℕ) (page : ℕ → ℕ) (bytes : ℕ) where
   -- what a walk over i pages has to do with their pieces
   record Stands (i : ℕ) : Type 0 where
     many : W i .count ≡ length (P i)
-    joined : joins (W i .count) (W i .last) (page i) ≡ continues page i
+    joined : joins (W i .count) (W i .last .0) (page i) ≡ continues page i
 
   -- after a page there is a last slice, it is the walk's, and putting it in its place gives the pieces
   record Stands-on (i : ℕ) : Type 0 where
     many : W (suc i) .count ≡ length (P (suc i))
-    last : W (suc i) .last ≡ page i
+    last : W (suc i) .last .0 ≡ page i
     ends : Ends (P (suc i)) (W (suc i) .slice)
     puts : (g : SourceSlice → ℕ) (st : List ℕ) → set (sets st 0 (map g (P i))) (W (suc i) .count - 1) (g (W (suc i) .slice)) ≡ sets st 0 (map g (P (suc i)))
 
@@ -157,13 +158,13 @@ module _ (p : ℕ) (page : ℕ → ℕ) (bytes : ℕ) where
       let short = n .short in
       let w = wanted-most i in
       let m = suc-mul i p in
-      by-test (λ (w : Walk). Near p (suc i) w) (joins (W i .count) (W i .last) (page i))
+      by-test (λ (w : Walk). Near p (suc i) w) (joins (W i .count) (W i .last .0) (page i))
       (λ _. record { few = omega arith; short = omega arith }) (λ _. record { few = omega arith; short = omega arith })
 
   count-rises : (i : ℕ) → W i .count ≤ W (suc i) .count
   unfolding walked extended
   count-rises i =
-      by-test (λ (w : Walk). W i .count ≤ w .count) (joins (W i .count) (W i .last) (page i)) (λ _. omega arith) (λ _. omega arith)
+      by-test (λ (w : Walk). W i .count ≤ w .count) (joins (W i .count) (W i .last .0) (page i)) (λ _. omega arith) (λ _. omega arith)
 
   count-below : (i n : ℕ) → i ≤ n → W i .count ≤ W n .count
   count-below i n h =

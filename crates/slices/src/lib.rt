@@ -3,6 +3,7 @@
 // none can come after the other.
 //
 // The walk is taken twice: `count_slices` judges the room, `write_slices` writes two lent stores.
+use paged::PageNumber;
 use paged::Pages;
 use paged::page_at;
 use paged::wanted_of;
@@ -25,7 +26,7 @@ pub struct SourceSlice {
 // Where a walk stands: how many slices there are so far, the page before, and the last slice as far as it reaches.
 pub struct Walk {
     pub count: usize,
-    pub last: u32,
+    pub last: PageNumber,
     pub slice: SourceSlice,
 }
 
@@ -76,7 +77,7 @@ fn begin() -> Walk
 {
     Walk {
         count: 0,
-        last: 0,
+        last: PageNumber(0),
         slice: SourceSlice { offset: 0, size: 0 },
     }
 }
@@ -101,7 +102,7 @@ fn extend(file: &[u8], size: usize, first: usize, bytes: usize, i: usize, walk: 
             },
         };
     }
-    let offset = page as u64 * size as u64;
+    let offset = page.0 as u64 * size as u64;
     Walk {
         count: walk.count + 1,
         last: page,
@@ -110,13 +111,13 @@ fn extend(file: &[u8], size: usize, first: usize, bytes: usize, i: usize, walk: 
 }
 
 // Whether a page is one above the page before it.
-fn follows(count: usize, last: u32, page: u32) -> bool
-    ensures { λ r. ⌜ r ≡ joins count last page ⌝ }
+fn follows(count: usize, last: PageNumber, page: PageNumber) -> bool
+    ensures { λ r. ⌜ r ≡ joins count (last .0) (page .0) ⌝ }
 {
     if count == 0 {
         return false;
     }
-    page as u64 == last as u64 + 1
+    page.0 as u64 == last.0 as u64 + 1
 }
 
 // The last slice, as far as it reaches, in its place.

@@ -26,7 +26,7 @@ cast-offset : tie.Need-cast-offset
 cast-offset c = search needs
 
 mul-offset : tie.Need-mul-offset
-mul-offset c = omega (arith, at-most-largest (c .before .before .before .before .page-at .result) (c .before .before .before .before .before .before .pre .0))
+mul-offset c = omega (arith, at-most-largest (c .before .before .before .before .before .page-at .result .0) (c .before .before .before .before .before .before .before .pre .0))
 
 add-t17 : tie.Need-add-t17
 add-t17 c = search needs

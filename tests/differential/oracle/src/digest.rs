@@ -7,6 +7,21 @@ pub enum Word {
     Plain(u64),
     /// A number of an annotation or of a store: its sign, and then its distance from 0 or from -1.
     Signed(i64),
+    /// A byte of a store: one half.
+    Byte(u8),
+}
+
+/// The words of an answer, for a reader.
+pub fn text(words: &[Word]) -> String {
+    let words: Vec<String> = words
+        .iter()
+        .map(|word| match word {
+            Word::Plain(w) => w.to_string(),
+            Word::Signed(z) => z.to_string(),
+            Word::Byte(b) => format!("{:02x}", b),
+        })
+        .collect();
+    words.join(" ")
 }
 
 /// The largest prime below 2^32: a lane fits in 32 bits and a product with it in 64.
@@ -31,6 +46,7 @@ impl Digest {
                     self.mix(1);
                     self.mix((-1 - z) as u64);
                 }
+                Word::Byte(b) => self.mix_half(u64::from(b)),
             }
         }
     }

@@ -4,6 +4,9 @@
 //!     oracle live SEED COUNT  COUNT random byte strings
 //!     oracle show N           reads a list, and prints record N with the Rust's answers
 //!     oracle alter N          reads a list, and writes it with one wrong answer, at record N
+//!
+//! These ask about binary annotations. record-msf, live-msf, show-msf and alter-msf do the same for
+//! containers; there COUNT is of random containers, of which each is asked several questions.
 
 use std::io::{self, BufWriter, Read, Write};
 
@@ -31,15 +34,14 @@ mod tpi {
 }
 
 // Our own.
-mod answers;
+mod annotations;
+mod container;
 mod digest;
-mod list;
-mod programs;
-mod questions;
 mod random;
-mod show;
+mod records;
 
-const USAGE: &str = "usage: oracle record | live SEED COUNT | show N | alter N";
+const USAGE: &str = "usage: oracle record | live SEED COUNT | show N | alter N, \
+                     or the same with -msf after the first word";
 
 fn main() {
     let words: Vec<String> = std::env::args().skip(1).collect();
@@ -52,10 +54,20 @@ fn main() {
 
 fn answer(words: &[&str], out: &mut impl Write) -> io::Result<()> {
     match *words {
-        ["record"] => list::write(questions::fixed().into_iter(), out)?,
-        ["live", seed, count] => list::write(questions::live(number(seed), number(count)), out)?,
-        ["show", n] => out.write_all(show::record(&read(), number(n) as usize).as_bytes())?,
-        ["alter", n] => out.write_all(&list::altered(&read(), number(n) as usize))?,
+        ["record"] => annotations::write(annotations::fixed().into_iter(), out)?,
+        ["live", seed, count] => {
+            annotations::write(annotations::live(number(seed), number(count)), out)?
+        }
+        ["show", n] => out.write_all(annotations::show(&read(), number(n) as usize).as_bytes())?,
+        ["alter", n] => {
+            out.write_all(&annotations::LAYOUT.altered(&read(), number(n) as usize))?
+        }
+        ["record-msf"] => container::write(container::fixed(), out)?,
+        ["live-msf", seed, count] => {
+            container::write(container::live(number(seed), number(count)), out)?
+        }
+        ["show-msf", n] => out.write_all(container::show(&read(), number(n) as usize).as_bytes())?,
+        ["alter-msf", n] => out.write_all(&container::altered(&read(), number(n) as usize))?,
         _ => stop(USAGE),
     }
     out.flush()

@@ -2,7 +2,7 @@
 use Prim.Native.Nat.{_%_}
 use native.Mathlib.Omega.{arith}
 use borrow.Author.Needs.{needs}
-use Rattle.replay_annotations.proofs.SignedLaws.{less-small}
+use Rattle.replay.proofs.SignedLaws.{less-small}
 use Rattle.replay_annotations.proofs.ask.untouched.Statement.{statement}
 use Rattle.replay_annotations.proofs.ask.untouched.Tie as tie
 

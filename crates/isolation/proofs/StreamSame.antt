@@ -1,0 +1,188 @@
+-- Mapping and extraction, stage by stage, in the way of `Same`.
+use mathlib.Core.Path.{_≡_, refl, sym, _∙_, ap}
+use mathlib.Core.Bool.{Bool, true, false}
+use mathlib.Core.List.{List, [], _∷_, _++_, map}
+use Prim.Native.Nat.{ℕ, zero, suc, _+_, _-_, _*_, _/_, _%_, min, _≤_, _<_}
+use native.Mathlib.Omega.{arith}
+use native.Mathlib.Nat.{le-refl}
+use borrow.Author.Tests.{leb-true, ltb-true, le-leb, lt-ltb, le-ltb}
+use mathlib.Core.Logic.{⊎-elim}
+use lib.Dec.{ltb, leb, eqb}
+use lib.ListN.{length}
+use Rattle.outcome.specs.Outcome.{Outcome, ok, _>>=_, _>>_, require}
+use Rattle.outcome.specs.Refusal as paper
+use Rattle.outcome.proofs.OutcomeLaws.{below-or, passed, came, came-by, ok-is}
+use Rattle.parse_buffer.specs.Bytes.{File}
+use Rattle.paged.specs.PageSize.{need}
+use Rattle.paged.specs.Pages.{through, directoryWord}
+use Rattle.paged.proofs.SizeLaws.{need-index, need-least}
+use Rattle.header.specs.declared.Header.{Header}
+use Rattle.directory.specs.Directory.{words, holds, reached}
+use Rattle.stream.specs.Stream.{sizeAt, pagesOf, pagesBefore, firstOf, ownPage, ownPages, sized, listed, found}
+use Rattle.stream.specs.declared.Sized.{Sized}
+use Rattle.stream.specs.declared.Found.{Found}
+use Rattle.stream.proofs.FindLaws.{Listed-at, listed-at, Found-at, found-at}
+use Rattle.slices.specs.Slices.{lengthen, continues, slicesOf, cut, total, placeOf}
+use Rattle.slices.specs.declared.SourceSlice.{SourceSlice}
+use Rattle.msf.specs.Msf.{lengthOf, Placed, placed, slicesIn, mapping, bytesThrough, bytesIn, readable, extraction}
+use Rattle.msf.specs.declared.limit.Limit.{Limit}
+use Rattle.container.proofs.Statements.{large, held, is-total, is-place}
+use Rattle.isolation.specs.Listed.{InWord, wordPlace, Named, ListedCount, Listed, ListedBytes, Agree}
+use Rattle.isolation.proofs.Same.{bind-same, then-same, check-same, lies-same, reached-same, held-same, count-same}
+
+-- ---- the slices of equal pages
+continues-same : {p q : ℕ → ℕ} (n : ℕ) → ((j : ℕ) → j < suc n → p j ≡ q j) → continues p n ≡ continues q n
+continues-same zero h = refl
+continues-same (suc n) h = rw (h n (omega arith), h (suc n) (omega arith))
+
+slices-same : (size : ℕ) {p q : ℕ → ℕ} (n : ℕ) → ((j : ℕ) → j < n → p j ≡ q j) → slicesOf size p n ≡ slicesOf size q n
+unfolding slicesOf
+slices-same size zero h = refl
+slices-same size (suc n) h = rw (slices-same size n (λ j l. h j (omega arith)), continues-same n h, h n (omega arith))
+
+-- ---- mapping
+module _ (f g : File) (len k : ℕ) (agree : Agree (Listed f len k) f g) where
+  counts : Agree (ListedCount f len) f g
+  counts i l = agree i (Listed.counting l)
+
+  module _ {h : Header} (d : reached f len ≡ ok h) (l : k < directoryWord f (h .size) 0) (t : 2 + k ≤ words h) where
+    size-same : (j : ℕ) → j ≤ k → sizeAt f (h .size) j ≡ sizeAt g (h .size) j
+    size-same j m =
+        held-same f g len counts d (1 + j) (omega arith) (λ i w. agree i (Listed.sizes d l m (le-leb (2 + j) (words h) (omega arith)) w))
+
+    before-same : (j : ℕ) → j ≤ k → pagesBefore f (h .size) j ≡ pagesBefore g (h .size) j
+    unfolding pagesBefore
+    before-same zero m = refl
+    before-same (suc j) m = rw (before-same j (omega arith), size-same j (omega arith))
+
+  sized-same : sized f len k ≡ sized g len k
+  unfolding sized
+  sized-same =
+      bind-same (reached-same f g len counts) λ h d.
+      then-same refl λ _ t.
+      rw (← count-same f g len counts d (passed _ _ t))
+      (then-same refl λ _ l.
+      then-same refl λ _ t′.
+      rw (← size-same d (ltb-true _ _ (passed _ _ l)) (leb-true _ _ (passed _ _ t′)) k (le-refl k))
+      refl)
+
+  sized-before : {x : Sized} → sized f len k ≡ ok x → pagesBefore f (x .header .size) k ≡ pagesBefore g (x .header .size) k
+  unfolding sized
+  sized-before {x} e =
+      came-by _ _ e λ h d e₁.
+      came _ _ e₁ λ _ _ e₂.
+      came _ _ e₂ λ _ l e₃.
+      came _ _ e₃ λ _ t e₄.
+      came _ _ e₄ λ _ _ e₅.
+      let same : h ≡ x .header = ap (λ (z : Sized). z .header) (ok-is e₅) in
+      rw (← same) (before-same d (ltb-true _ _ (passed _ _ l)) (leb-true _ _ (passed _ _ t)) k (le-refl k))
+
+  listed-same : listed f len k ≡ listed g len k
+  unfolding listed
+  listed-same = bind-same sized-same λ x s. rw (sized-before s)
+
+  module _ {x : Found} (s : listed f len k ≡ ok x) where
+    own-same : (j : ℕ) → j < ownPages x → x .first + j < words (x .header) → ownPage f x j ≡ ownPage g x j
+    own-same j l t =
+        held-same f g len counts (listed-at f len k s .reached) (x .first + j) t
+        (λ i w. agree i (Listed.pages s l (le-leb (x .first + j + 1) (words (x .header)) (omega arith)) w))
+
+  found-same : found f len k ≡ found g len k
+  unfolding found
+  found-same =
+      bind-same listed-same λ x s.
+      then-same (check-same _ _ (λ j l. own-same s j (omega arith) (omega arith))) λ _ _.
+      refl
+
+  pub placed-same : (limit : Limit) → placed f len k limit ≡ placed g len k limit
+  unfolding placed
+  placed-same limit = rw found-same
+
+  module _ (limit : Limit) {x : Placed} (p : placed f len k limit ≡ ok x) where
+    placed-found : found f len k ≡ ok (x .found)
+    unfolding placed
+    placed-found =
+        came-by _ _ p λ y e e₁.
+        e ∙ ap (λ (z : Placed). ok (z .found)) (ok-is e₁)
+
+    pub page-same : (j : ℕ) → j < ownPages (x .found) → ownPage f (x .found) j ≡ ownPage g (x .found) j
+    page-same j l =
+        let at = found-at f len k placed-found in
+        let inside = at .inside in
+        own-same (at .listed) j l (omega arith)
+
+    pub slicesIn-same : slicesIn f x ≡ slicesIn g x
+    slicesIn-same = rw (slices-same (x .found .header .size) (ownPages (x .found)) page-same)
+
+  mapping-placed : (limit : Limit) (room : ℕ) {x : Placed} → mapping f len k limit room ≡ ok x → placed f len k limit ≡ ok x
+  unfolding mapping
+  mapping-placed limit room e =
+      came-by _ _ e λ y p e₁.
+      came _ _ e₁ λ _ _ e₂.
+      p ∙ e₂
+
+  pub mapping-same : (limit : Limit) (room : ℕ) → mapping f len k limit room ≡ mapping g len k limit room
+  unfolding mapping
+  mapping-same limit room = bind-same (placed-same limit) λ x p. rw (slicesIn-same limit p)
+
+  pub mapped-slices : (limit : Limit) (room : ℕ) {x : Placed} → mapping f len k limit room ≡ ok x → slicesIn f x ≡ slicesIn g x
+  mapped-slices limit room m = slicesIn-same limit (mapping-placed limit room m)
+
+-- ---- extraction
+-- a byte of the slices, laid end to end, is one that they name
+named : (xs : List SourceSlice) (i : ℕ) → i < total xs → Named xs (placeOf xs i)
+unfolding total placeOf
+named [] i l = absurd (omega arith)
+named (s ∷ rest) i l =
+    ⊎-elim
+    (λ (m : i < s .size). rw (lt-ltb i (s .size) m) (Named.here {i = s .offset + i} {s = s} {rest = rest} (omega arith) (omega arith)))
+    (λ (m : s .size ≤ i). rw (le-ltb i (s .size) m) (Named.there (named rest (i - s .size) (omega arith))))
+    (below-or i (s .size))
+
+through-same : (f g : File) (p : ℕ) (a b : ℕ → ℕ) (n : ℕ) → ((i : ℕ) → i < n → f (through p a i) ≡ g (through p b i)) → bytesThrough f p a n ≡ bytesThrough g p b n
+unfolding bytesThrough
+through-same f g p a b zero h = refl
+through-same f g p a b (suc n) h = rw (through-same f g p a b n (λ i l. h i (omega arith)), h n (omega arith))
+
+module _ (f g : File) (len k : ℕ) (limit : Limit) (agree : Agree (ListedBytes f len k limit) f g) where
+  maps : Agree (Listed f len k) f g
+  maps i l = agree i (ListedBytes.mapping l)
+
+  readable-placed : {x : Placed} → readable f len k limit ≡ ok x → placed f len k limit ≡ ok x
+  unfolding readable
+  readable-placed e =
+      came-by _ _ e λ y p e₁.
+      came _ _ e₁ λ _ _ e₂.
+      p ∙ e₂
+
+  -- the pages that hold what is asked for are among the stream's own
+  few : {x : Placed} → placed f len k limit ≡ ok x → need (x .found .header .size) (x .size) ≤ ownPages (x .found)
+  few {x} p =
+      need-least (x .found .header .size) (x .size) (large f len k limit p) (ownPages (x .found)) (held f len k limit p)
+
+  pub readable-same : readable f len k limit ≡ readable g len k limit
+  unfolding readable
+  readable-same =
+      bind-same (placed-same f g len k maps limit) λ x p.
+      then-same (lies-same _ _ _ _ (λ j l. let m = few p in page-same f g len k maps limit p j (omega arith))) λ _ _.
+      refl
+
+  pub bytesIn-same : {x : Placed} → readable f len k limit ≡ ok x → bytesIn f x ≡ bytesIn g x
+  bytesIn-same {x} r =
+      let p = readable-placed r in
+      through-same f g (x .found .header .size) (ownPage f (x .found)) (ownPage g (x .found)) (x .size) (λ i l.
+      let m = few p in
+      let n = need-index (x .found .header .size) (x .size) (large f len k limit p) i l in
+      rw (← page-same f g len k maps limit p (i / x .found .header .size) (omega arith))
+      (agree _ (ListedBytes.bytes r (rw (← is-place f len k limit p i l) (named (slicesIn f x) i (rw (is-total f len k limit p) l))))))
+
+  pub extraction-same : (room : ℕ) → extraction f len k limit room ≡ extraction g len k limit room
+  unfolding extraction
+  extraction-same room = rw readable-same
+
+  pub extracted-bytes : (room : ℕ) {x : Placed} → extraction f len k limit room ≡ ok x → bytesIn f x ≡ bytesIn g x
+  unfolding extraction
+  extracted-bytes room e =
+      came-by _ _ e λ y r e₁.
+      came _ _ e₁ λ _ _ e₂.
+      bytesIn-same (r ∙ e₂)

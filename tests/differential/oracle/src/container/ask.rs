@@ -1,0 +1,135 @@
+//! Questions about one base file.
+
+use super::answers;
+use super::list::{Record, MOST_BYTES, MOST_ENTRIES};
+use super::question::{Question, Rooms, Run, Sweep, COUNT, EXTRACT, MAP, OPEN};
+
+/// Stores that take what small streams answer.
+const SMALL_ROOMS: Rooms = Rooms {
+    offsets: 4,
+    sizes: 4,
+    bytes: 700,
+};
+
+/// A base file and the questions about it.
+pub struct About {
+    pub base: Vec<u8>,
+    pub records: Vec<Record>,
+}
+
+impl About {
+    pub fn new(base: Vec<u8>) -> Self {
+        About {
+            records: vec![Record::Base(base.clone())],
+            base,
+        }
+    }
+
+    /// Every operation, of the base file as it is and of stream 0. The questions vary this one.
+    pub fn question(&self) -> Question {
+        Question {
+            length: self.base.len(),
+            edits: Vec::new(),
+            sweep: None,
+            operations: OPEN | COUNT | MAP | EXTRACT,
+            stream: 0,
+            limit: None,
+            rooms: SMALL_ROOMS,
+        }
+    }
+
+    pub fn edited(&self, edits: &[Run]) -> Question {
+        Question {
+            edits: edits.to_vec(),
+            ..self.question()
+        }
+    }
+
+    pub fn cut(&self, length: usize) -> Question {
+        Question {
+            length,
+            ..self.question()
+        }
+    }
+
+    pub fn ask(&mut self, question: Question) {
+        self.records.push(Record::Question(question));
+    }
+
+    /// The question of each of these streams. The file is opened and counted for the first alone.
+    pub fn ask_streams(&mut self, question: Question, streams: &[u32]) {
+        for (i, &stream) in streams.iter().enumerate() {
+            let operations = if i == 0 {
+                question.operations
+            } else {
+                question.operations & (MAP | EXTRACT)
+            };
+            self.ask(Question {
+                stream,
+                operations,
+                ..question.clone()
+            });
+        }
+    }
+
+    /// The question of each of these streams, at every value of a byte.
+    pub fn ask_swept(&mut self, at: usize, question: Question, streams: &[u32]) {
+        let sweep = Some(Sweep {
+            at,
+            first: 0,
+            last: 255,
+        });
+        self.ask_streams(Question { sweep, ..question }, streams);
+    }
+
+    /// The question with stores that are exactly enough, larger, one short and empty, and with one
+    /// store shorter than the other.
+    pub fn ask_rooms(&mut self, question: Question) {
+        for rooms in self.rooms_around(&question) {
+            self.ask(Question {
+                rooms,
+                ..question.clone()
+            });
+        }
+    }
+
+    /// The question with stores that are one entry larger than it needs.
+    pub fn ask_with_room(&mut self, question: Question) {
+        let rooms = match self.needed(&question) {
+            Some((slices, bytes)) => rooms(slices + 1, slices + 1, bytes + 1),
+            None => rooms(1, 1, 1),
+        };
+        self.ask(Question { rooms, ..question });
+    }
+
+    fn rooms_around(&self, question: &Question) -> Vec<Rooms> {
+        match self.needed(question) {
+            Some((slices, bytes)) => vec![
+                rooms(slices, slices, bytes),
+                rooms(slices.saturating_sub(1), slices, bytes.saturating_sub(1)),
+                rooms(slices, slices.saturating_sub(1), bytes + 1),
+                rooms(slices + 1, slices, bytes + 9),
+                rooms(slices, slices + 2, bytes),
+                rooms(0, 0, 0),
+            ],
+            None => vec![rooms(0, 0, 0), rooms(2, 1, 5)],
+        }
+    }
+
+    /// The slices and bytes of the mapping, where there is one.
+    pub fn needed(&self, question: &Question) -> Option<(usize, usize)> {
+        let file = question.files(&self.base).pop()?;
+        let slices = answers::slices(&file, question.stream, question.limit)?.ok()?;
+        let bytes = slices.iter().map(|slice| slice.size).sum();
+        Some((slices.len(), bytes))
+    }
+}
+
+/// Rooms as a record can have them.
+pub fn rooms(offsets: usize, sizes: usize, bytes: usize) -> Rooms {
+    Rooms {
+        offsets: offsets.min(MOST_ENTRIES),
+        sizes: sizes.min(MOST_ENTRIES),
+        bytes: bytes.min(MOST_BYTES),
+    }
+}

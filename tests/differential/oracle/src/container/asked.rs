@@ -1,0 +1,59 @@
+//! A question as a list has it: with the digest of pdb's answers, and without what pdb cannot answer.
+
+use super::question::{Question, Sweep};
+use crate::digest::Digest;
+
+/// A question of which every answer can be had, and their digest.
+pub struct Asked {
+    pub question: Question,
+    pub digest: Digest,
+}
+
+/// The question without the operations that have no answer. A sweep falls into a question for each
+/// run of values at which the same operations have one.
+pub fn asked(question: &Question, base: &[u8], skipped: &mut usize) -> Vec<Asked> {
+    let mut pieces: Vec<Asked> = Vec::new();
+    for (i, file) in question.files(base).iter().enumerate() {
+        let answers = question.answers(file);
+        let operations = answers
+            .iter()
+            .filter(|(_, answer)| answer.is_some())
+            .fold(0, |sum, (operation, _)| sum | operation);
+        *skipped += (question.operations ^ operations).count_ones() as usize;
+        match pieces.last_mut() {
+            Some(piece) if piece.question.operations == operations => piece.go_on(),
+            _ => pieces.push(Asked::at(question, operations, i)),
+        }
+        let piece = pieces.last_mut().expect("one was pushed");
+        for words in answers.iter().filter_map(|(_, answer)| answer.as_ref()) {
+            piece.digest.mix_all(words);
+        }
+    }
+    pieces.retain(|piece| piece.question.operations != 0);
+    pieces
+}
+
+impl Asked {
+    /// The question at its `i`th file alone.
+    fn at(question: &Question, operations: u8, i: usize) -> Self {
+        let sweep = question.sweep.map(|sweep| Sweep {
+            first: sweep.first + i as u8,
+            last: sweep.first + i as u8,
+            ..sweep
+        });
+        Asked {
+            question: Question {
+                operations,
+                sweep,
+                ..question.clone()
+            },
+            digest: Digest::default(),
+        }
+    }
+
+    fn go_on(&mut self) {
+        if let Some(sweep) = &mut self.question.sweep {
+            sweep.last += 1;
+        }
+    }
+}

@@ -1,0 +1,20 @@
+//! Lists of questions about containers.
+
+mod answers;
+mod ask;
+mod asked;
+mod damage;
+mod file_f;
+mod files;
+mod fixed;
+mod list;
+mod live;
+mod question;
+mod shapes;
+mod show;
+mod source;
+
+pub use fixed::fixed;
+pub use list::{altered, write};
+pub use live::live;
+pub use show::record as show;

@@ -1,0 +1,86 @@
+//! A question about a container: a base file's edited copy, and what is asked of it.
+
+use super::answers;
+use crate::digest::Word;
+
+// The operations that a question asks for, as bits.
+pub const OPEN: u8 = 1;
+pub const COUNT: u8 = 2;
+pub const MAP: u8 = 4;
+pub const EXTRACT: u8 = 8;
+
+/// Bytes at a place of a file.
+#[derive(Clone, Debug)]
+pub struct Run {
+    pub at: usize,
+    pub bytes: Vec<u8>,
+}
+
+/// How many entries the stores have.
+#[derive(Clone, Copy, Debug)]
+pub struct Rooms {
+    pub offsets: usize,
+    pub sizes: usize,
+    pub bytes: usize,
+}
+
+/// One byte of the file takes each value from `first` to `last`, and the question is asked at each.
+#[derive(Clone, Copy, Debug)]
+pub struct Sweep {
+    pub at: usize,
+    pub first: u8,
+    pub last: u8,
+}
+
+#[derive(Clone, Debug)]
+pub struct Question {
+    /// The file's length: the base file is cut there, or goes on with zeros.
+    pub length: usize,
+    pub edits: Vec<Run>,
+    pub sweep: Option<Sweep>,
+    pub operations: u8,
+    pub stream: u32,
+    pub limit: Option<u64>,
+    pub rooms: Rooms,
+}
+
+impl Question {
+    /// The files that the question asks of.
+    pub fn files(&self, base: &[u8]) -> Vec<Vec<u8>> {
+        let mut file = base.to_vec();
+        file.resize(self.length, 0);
+        for edit in &self.edits {
+            file[edit.at..edit.at + edit.bytes.len()].copy_from_slice(&edit.bytes);
+        }
+        match self.sweep {
+            None => vec![file],
+            Some(sweep) => (sweep.first..=sweep.last)
+                .map(|value| {
+                    let mut file = file.clone();
+                    file[sweep.at] = value;
+                    file
+                })
+                .collect(),
+        }
+    }
+
+    /// What pdb answers of a file, operation by operation, with `None` where it has no answer.
+    pub fn answers(&self, file: &[u8]) -> Vec<(u8, Option<Vec<Word>>)> {
+        let Rooms {
+            offsets,
+            sizes,
+            bytes,
+        } = self.rooms;
+        let ask = |operation| match operation {
+            OPEN => Some(answers::open(file)),
+            COUNT => answers::count(file),
+            MAP => answers::map(file, self.stream, self.limit, (offsets, sizes)),
+            _ => answers::extract(file, self.stream, self.limit, bytes),
+        };
+        [OPEN, COUNT, MAP, EXTRACT]
+            .iter()
+            .filter(|&&operation| self.operations & operation != 0)
+            .map(|&operation| (operation, ask(operation)))
+            .collect()
+    }
+}
