@@ -117,7 +117,7 @@ pub the-byte : TheByte
 the-byte = record { is = extracted-from }
 
 -- ---- the slices
-mapping-placed : (f : File) (len k : ℕ) (limit : Limit) (room : ℕ) {x : Placed} → mapping f len k limit room ≡ ok x → placed f len k limit ≡ ok x
+pub mapping-placed : (f : File) (len k : ℕ) (limit : Limit) (room : ℕ) {x : Placed} → mapping f len k limit room ≡ ok x → placed f len k limit ≡ ok x
 unfolding mapping
 mapping-placed f len k limit room e =
     came-by _ _ e λ y p e₁.

@@ -1,3 +1,5 @@
 pub mod Same
 pub mod StreamSame
 pub mod Isolation
+pub mod PageZero
+pub mod Corollaries

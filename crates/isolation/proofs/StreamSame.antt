@@ -26,7 +26,7 @@ use Rattle.slices.specs.Slices.{lengthen, continues, slicesOf, cut, total, plac
 use Rattle.slices.specs.declared.SourceSlice.{SourceSlice}
 use Rattle.msf.specs.Msf.{lengthOf, Placed, placed, slicesIn, mapping, bytesThrough, bytesIn, readable, extraction}
 use Rattle.msf.specs.declared.limit.Limit.{Limit}
-use Rattle.container.proofs.Statements.{large, held, is-total, is-place}
+use Rattle.container.proofs.Statements.{mapping-placed, large, held, is-total, is-place}
 use Rattle.isolation.specs.Listed.{InWord, wordPlace, Named, ListedCount, Listed, ListedBytes, Agree}
 use Rattle.isolation.proofs.Same.{bind-same, then-same, check-same, lies-same, reached-same, held-same, count-same}
 
@@ -39,6 +39,24 @@ slices-same : (size : ℕ) {p q : ℕ → ℕ} (n : ℕ) → ((j : ℕ) → j < 
 unfolding slicesOf
 slices-same size zero h = refl
 slices-same size (suc n) h = rw (slices-same size n (λ j l. h j (omega arith)), continues-same n h, h n (omega arith))
+
+-- ---- what a stage that passed says of the one before it
+module _ (f : File) (len k : ℕ) (limit : Limit) {x : Placed} where
+  placed-found : placed f len k limit ≡ ok x → found f len k ≡ ok (x .found)
+  unfolding placed
+  placed-found p =
+      came-by _ _ p λ y e e₁.
+      e ∙ ap (λ (z : Placed). ok (z .found)) (ok-is e₁)
+
+  readable-placed : readable f len k limit ≡ ok x → placed f len k limit ≡ ok x
+  unfolding readable
+  readable-placed e =
+      came-by _ _ e λ y p e₁.
+      came _ _ e₁ λ _ _ e₂.
+      p ∙ e₂
+
+  pub readable-found : readable f len k limit ≡ ok x → found f len k ≡ ok (x .found)
+  readable-found e = placed-found (readable-placed e)
 
 -- ---- mapping
 module _ (f g : File) (len k : ℕ) (agree : Agree (Listed f len k) f g) where
@@ -99,34 +117,21 @@ module _ (f g : File) (len k : ℕ) (agree : Agree (Listed f len k) f g) where
   placed-same limit = rw found-same
 
   module _ (limit : Limit) {x : Placed} (p : placed f len k limit ≡ ok x) where
-    placed-found : found f len k ≡ ok (x .found)
-    unfolding placed
-    placed-found =
-        came-by _ _ p λ y e e₁.
-        e ∙ ap (λ (z : Placed). ok (z .found)) (ok-is e₁)
-
     pub page-same : (j : ℕ) → j < ownPages (x .found) → ownPage f (x .found) j ≡ ownPage g (x .found) j
     page-same j l =
-        let at = found-at f len k placed-found in
+        let at = found-at f len k (placed-found f len k limit p) in
         let inside = at .inside in
         own-same (at .listed) j l (omega arith)
 
     pub slicesIn-same : slicesIn f x ≡ slicesIn g x
     slicesIn-same = rw (slices-same (x .found .header .size) (ownPages (x .found)) page-same)
 
-  mapping-placed : (limit : Limit) (room : ℕ) {x : Placed} → mapping f len k limit room ≡ ok x → placed f len k limit ≡ ok x
-  unfolding mapping
-  mapping-placed limit room e =
-      came-by _ _ e λ y p e₁.
-      came _ _ e₁ λ _ _ e₂.
-      p ∙ e₂
-
   pub mapping-same : (limit : Limit) (room : ℕ) → mapping f len k limit room ≡ mapping g len k limit room
   unfolding mapping
   mapping-same limit room = bind-same (placed-same limit) λ x p. rw (slicesIn-same limit p)
 
   pub mapped-slices : (limit : Limit) (room : ℕ) {x : Placed} → mapping f len k limit room ≡ ok x → slicesIn f x ≡ slicesIn g x
-  mapped-slices limit room m = slicesIn-same limit (mapping-placed limit room m)
+  mapped-slices limit room m = slicesIn-same limit (mapping-placed f len k limit room m)
 
 -- ---- extraction
 -- a byte of the slices, laid end to end, is one that they name
@@ -148,13 +153,6 @@ module _ (f g : File) (len k : ℕ) (limit : Limit) (agree : Agree (ListedBytes 
   maps : Agree (Listed f len k) f g
   maps i l = agree i (ListedBytes.mapping l)
 
-  readable-placed : {x : Placed} → readable f len k limit ≡ ok x → placed f len k limit ≡ ok x
-  unfolding readable
-  readable-placed e =
-      came-by _ _ e λ y p e₁.
-      came _ _ e₁ λ _ _ e₂.
-      p ∙ e₂
-
   -- the pages that hold what is asked for are among the stream's own
   few : {x : Placed} → placed f len k limit ≡ ok x → need (x .found .header .size) (x .size) ≤ ownPages (x .found)
   few {x} p =
@@ -169,7 +167,7 @@ module _ (f g : File) (len k : ℕ) (limit : Limit) (agree : Agree (ListedBytes 
 
   pub bytesIn-same : {x : Placed} → readable f len k limit ≡ ok x → bytesIn f x ≡ bytesIn g x
   bytesIn-same {x} r =
-      let p = readable-placed r in
+      let p = readable-placed f len k limit r in
       through-same f g (x .found .header .size) (ownPage f (x .found)) (ownPage g (x .found)) (x .size) (λ i l.
       let m = few p in
       let n = need-index (x .found .header .size) (x .size) (large f len k limit p) i l in

@@ -1,2 +1,3 @@
 pub mod Listed
 pub mod Isolation
+pub mod Corollaries
