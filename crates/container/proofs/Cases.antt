@@ -14,8 +14,8 @@ use Rattle.stream.specs.Stream.{pagesOf, pagesBefore, listed, found}
 use Rattle.slices.specs.Slices.{lengthen, slicesOf, cut, placeOf}
 use Rattle.msf.specs.Msf.{placed, mapping}
 use Rattle.container.specs.FileF.{fileF, F}
-use Rattle.container.specs.Cases.{Cases, mappingF}
+use Rattle.container.specs.Cases.{Cases, mappingOf}
 
 pub cases : Cases
-unfolding mappingF F fileF _>>=_ _>>_ require each word sizeFits need location directoryPage directoryWord pageFits standsAt sized headed located reached pagesOf pagesBefore stream.sized listed found lengthen slicesOf cut placeOf placed mapping Count.ones Count.onesIn
+unfolding mappingOf F fileF _>>=_ _>>_ require each word sizeFits need location directoryPage directoryWord pageFits standsAt sized headed located reached pagesOf pagesBefore stream.sized listed found lengthen slicesOf cut placeOf placed mapping Count.ones Count.onesIn
 cases = record { size = refl; two = refl; byte = refl; zero = refl; one = refl; three = refl }

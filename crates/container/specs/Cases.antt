@@ -5,23 +5,27 @@ use Prim.Native.Nat.{ℕ}
 use lib.ListN.{length}
 use Rattle.outcome.specs.Outcome.{Outcome, ok, refused, _>>=_}
 use Rattle.outcome.specs.Refusal as paper
+use Rattle.parse_buffer.specs.Bytes.{File}
 use Rattle.slices.specs.Slices.{placeOf}
 use Rattle.slices.specs.declared.SourceSlice.{SourceSlice}
 use Rattle.msf.specs.Msf.{Placed, slicesIn, mapping}
 use Rattle.msf.specs.declared.limit.Limit.the-variants.{None}
 use Rattle.container.specs.FileF.{fileF, F}
 
--- what mapping a stream of F answers, with room for eight slices and no limit: the slices and the length
+-- what mapping a stream answers, with room for eight slices and no limit: the slices and the length
 pub record Answer : Type 0 where
   pub slices : List SourceSlice
   pub size : ℕ
 
-unfoldable pub mappingF : ℕ → Outcome paper.Refusal Answer
-mappingF k = do
-  x ← mapping F (length fileF) k None 8
-  ok (record { slices = slicesIn F x; size = x .size })
+unfoldable pub mappingOf : File → ℕ → Outcome paper.Refusal Answer
+mappingOf f k = do
+  x ← mapping f 6144 k None 8
+  ok (record { slices = slicesIn f x; size = x .size })
 
-abbrev at : ℕ → ℕ → SourceSlice
+abbrev mappingF : ℕ → Outcome paper.Refusal Answer
+mappingF k = mappingOf F k
+
+abbrev pub at : ℕ → ℕ → SourceSlice
 at offset size = record { offset = offset; size = size }
 
 abbrev notFound : ℕ → Outcome paper.Refusal Answer

@@ -3,3 +3,5 @@ pub mod StreamSame
 pub mod Isolation
 pub mod PageZero
 pub mod Corollaries
+pub mod Tight
+pub mod Cases

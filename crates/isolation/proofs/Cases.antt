@@ -1,0 +1,7 @@
+-- The (P) cases of both halves.
+use Rattle.annotations.proofs.Cases as annotations
+use Rattle.container.proofs.Cases as container
+use Rattle.isolation.specs.Cases.{Cases}
+
+pub cases : Cases
+cases = record { annotations = annotations.cases; container = container.cases }
