@@ -38,7 +38,7 @@ unlisted : (f g : File) (len k : ℕ) (limit : Limit) (at : ℕ) → (ListedByte
 unlisted f g len k limit at n =
     off-list f g len k limit (λ i. i ≡ at) (λ i l e. n (rw e at l))
 
-page-zero : (f : File) (len k : ℕ) (limit : Limit) (i : ℕ) → i < 256 → ListedBytes f len k limit i → ListedOpen f len i
+pub page-zero : (f : File) (len k : ℕ) (limit : Limit) (i : ℕ) → i < 256 → ListedBytes f len k limit i → ListedOpen f len i
 page-zero f len k limit i m (ListedBytes.mapping (Listed.counting (ListedCount.opening l))) = l
 page-zero f len k limit i m (ListedBytes.mapping (Listed.counting (ListedCount.list {j} o inside l w))) =
     let past = entry-past f len o j l in absurd (omega (arith, w .0))
@@ -54,13 +54,13 @@ page-zero f len k limit i m (ListedBytes.bytes {x} r n) =
     let past = slices-past f len k x (readable-found f len k limit r) i n in absurd (omega arith)
 
 -- of the header's words, neither is read in opening
-no-free-map : (f : File) (len i : ℕ) → standsAt f 0 bigMagic ≡ true → 36 ≤ i → i < 40 → ListedOpen f len i → ⊥
+pub no-free-map : (f : File) (len i : ℕ) → standsAt f 0 bigMagic ≡ true → 36 ≤ i → i < 40 → ListedOpen f len i → ⊥
 no-free-map f len i b l m (ListedOpen.start n) = omega arith
 no-free-map f len i b l m (ListedOpen.fields n _) = omega arith
 no-free-map f len i b l m (ListedOpen.small e _ _) = let z : _≡_ {A = ℕ} 0 1 = cc in omega arith
 no-free-map f len i b l m (ListedOpen.locations _ _ w) = omega (arith, w .0)
 
-no-reserved : (f : File) (len i : ℕ) → 48 ≤ i → i < 52 → ListedOpen f len i → ⊥
+pub no-reserved : (f : File) (len i : ℕ) → 48 ≤ i → i < 52 → ListedOpen f len i → ⊥
 no-reserved f len i l m (ListedOpen.start n) = omega arith
 no-reserved f len i l m (ListedOpen.fields _ n) = omega arith
 no-reserved f len i l m (ListedOpen.small _ _ n) = omega arith

@@ -4,4 +4,5 @@ pub mod Isolation
 pub mod PageZero
 pub mod Corollaries
 pub mod Tight
+pub mod NotTooMuch
 pub mod Cases

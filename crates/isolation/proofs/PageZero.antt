@@ -72,49 +72,53 @@ module _ (f : File) (len : ℕ) where
       past (h .used) (h .size) (directoryPage f (h .size)) (directoryPages h) (reached-size f len d) (reached-checked d) (4 * w)
       (need-index (h .size) (h .directory) (omega arith) (4 * w) (omega arith))
 
--- slices that all start past page 0
-pub data Past : List SourceSlice → Type 0 where
-  none : Past []
-  one : {s : SourceSlice} {rest : List SourceSlice} → 256 ≤ s .offset → Past rest → Past (s ∷ rest)
+-- slices that all start at b or later
+data From (b : ℕ) : List SourceSlice → Type 0 where
+  none : From b []
+  one : {s : SourceSlice} {rest : List SourceSlice} → b ≤ s .offset → From b rest → From b (s ∷ rest)
 
-either : (b : Bool) {xs ys : List SourceSlice} → Past xs → Past ys → Past (cond b xs ys)
-either true x y = x
-either false x y = y
+module _ (b : ℕ) where
+  either : (t : Bool) {xs ys : List SourceSlice} → From b xs → From b ys → From b (cond t xs ys)
+  either true x y = x
+  either false x y = y
 
-past-lengthen : (r : ℕ) (xs : List SourceSlice) → Past xs → Past (lengthen r xs)
-unfolding lengthen
-past-lengthen r [] h = h
-past-lengthen r (s ∷ []) (Past.one l h) = Past.one l h
-past-lengthen r (s ∷ t ∷ rest) (Past.one l h) = Past.one l (past-lengthen r (t ∷ rest) h)
+  from-lengthen : (r : ℕ) (xs : List SourceSlice) → From b xs → From b (lengthen r xs)
+  unfolding lengthen
+  from-lengthen r [] h = h
+  from-lengthen r (s ∷ []) (From.one l h) = From.one l h
+  from-lengthen r (s ∷ t ∷ rest) (From.one l h) = From.one l (from-lengthen r (t ∷ rest) h)
 
-past-snoc : (xs : List SourceSlice) (s : SourceSlice) → Past xs → 256 ≤ s .offset → Past (xs ++ s ∷ [])
-past-snoc [] s h l = Past.one l h
-past-snoc (x ∷ xs) s (Past.one m h) l = Past.one m (past-snoc xs s h l)
+  from-snoc : (xs : List SourceSlice) (s : SourceSlice) → From b xs → b ≤ s .offset → From b (xs ++ s ∷ [])
+  from-snoc [] s h l = From.one l h
+  from-snoc (x ∷ xs) s (From.one m h) l = From.one m (from-snoc xs s h l)
 
-past-slices : (p : ℕ) (page : ℕ → ℕ) (n : ℕ) → ((j : ℕ) → j < n → 256 ≤ page j * p) → Past (slicesOf p page n)
-unfolding slicesOf
-past-slices p page zero h = Past.none
-past-slices p page (suc n) h =
-    let before = past-slices p page n (λ j l. h j (omega arith)) in
-    either (continues page n) (past-lengthen p (slicesOf p page n) before) (past-snoc (slicesOf p page n) _ before (h n (omega arith)))
+  from-slices : (p : ℕ) (page : ℕ → ℕ) (n : ℕ) → ((j : ℕ) → j < n → b ≤ page j * p) → From b (slicesOf p page n)
+  unfolding slicesOf
+  from-slices p page zero h = From.none
+  from-slices p page (suc n) h =
+      let before = from-slices p page n (λ j l. h j (omega arith)) in
+      either (continues page n) (from-lengthen p (slicesOf p page n) before) (from-snoc (slicesOf p page n) _ before (h n (omega arith)))
 
-past-cut : (n : ℕ) (xs : List SourceSlice) → Past xs → Past (cut n xs)
-unfolding cut
-past-cut n [] h = h
-past-cut n (s ∷ rest) (Past.one l h) = either (eqb n 0) Past.none (Past.one l (past-cut (n - s .size) rest h))
+  from-cut : (n : ℕ) (xs : List SourceSlice) → From b xs → From b (cut n xs)
+  unfolding cut
+  from-cut n [] h = h
+  from-cut n (s ∷ rest) (From.one l h) = either (eqb n 0) From.none (From.one l (from-cut (n - s .size) rest h))
 
-past-named : (xs : List SourceSlice) (i : ℕ) → Past xs → Named xs i → 256 ≤ i
-past-named (s ∷ rest) i (Past.one l h) (Named.here m _) = omega arith
-past-named (s ∷ rest) i (Past.one l h) (Named.there m) = past-named rest i h m
+  from-named : (xs : List SourceSlice) (i : ℕ) → From b xs → Named xs i → b ≤ i
+  from-named (s ∷ rest) i (From.one l h) (Named.here m _) = omega arith
+  from-named (s ∷ rest) i (From.one l h) (Named.there m) = from-named rest i h m
+
+  -- what slices name is not before the first of their pages
+  pub slices-from : (f : File) (x : Placed) → ((j : ℕ) → j < ownPages (x .found) → b ≤ ownPage f (x .found) j * x .found .header .size) → (i : ℕ) → Named (slicesIn f x) i → b ≤ i
+  slices-from f x starts i n =
+      from-named (slicesIn f x) i
+      (from-cut (x .size) _ (from-slices (x .found .header .size) (ownPage f (x .found)) (ownPages (x .found)) starts)) n
 
 pub slices-past : (f : File) (len k : ℕ) (x : Placed) → found f len k ≡ ok (x .found) → (i : ℕ) → Named (slicesIn f x) i → 256 ≤ i
-slices-past f len k x e i n =
+slices-past f len k x e =
     let at = found-at f len k e in
-    let s = reached-size f len (at .reached) in
-    let least = s .least in
-    let P : ℕ = x .found .header .size in
-    let starts : (j : ℕ) → j < ownPages (x .found) → 256 ≤ ownPage f (x .found) j * P = λ j l.
-      let q = fits-positive (x .found .header .used) (ownPage f (x .found) j) (each-passed _ _ (ownPages (x .found)) (at .checked) j l) in
-      let m : 1 * P ≤ ownPage f (x .found) j * P = mul-le-mul q (omega arith) in
-      omega arith in
-    past-named (slicesIn f x) i (past-cut (x .size) _ (past-slices P (ownPage f (x .found)) (ownPages (x .found)) starts)) n
+    let least = reached-size f len (at .reached) .least in
+    slices-from 256 f x λ j l.
+    let q = fits-positive (x .found .header .used) (ownPage f (x .found) j) (each-passed _ _ (ownPages (x .found)) (at .checked) j l) in
+    let m : 1 * x .found .header .size ≤ ownPage f (x .found) j * x .found .header .size = mul-le-mul q (omega arith) in
+    omega arith
