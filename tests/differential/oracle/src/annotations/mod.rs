@@ -4,6 +4,7 @@ mod answers;
 mod list;
 mod programs;
 mod questions;
+mod rules;
 mod show;
 
 pub use list::{write, LAYOUT};

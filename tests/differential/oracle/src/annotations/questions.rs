@@ -2,7 +2,7 @@
 
 use super::answers;
 use super::list::{Question, LARGEST_ROOM, LONGEST};
-use super::programs;
+use super::{programs, rules};
 use crate::random::Random;
 
 /// The two byte strings that pdb's own test decodes.
@@ -48,7 +48,7 @@ const FIXED_LONG: usize = 12;
 
 /// The fixed list.
 pub fn fixed() -> Vec<Question> {
-    let mut questions = Vec::new();
+    let mut questions = rules::questions();
     for &bytes in PDB_TEST.iter().chain(&NAMED) {
         ask_everywhere(bytes, &mut questions);
     }

@@ -1,14 +1,16 @@
-//! The fixed list: the project's file F, files of other shapes, and some random containers.
+//! The fixed list: the rows of `docs/RULES.md`, the project's file F, files of other shapes, and some
+//! random containers.
 
 use super::ask::About;
 use super::list::Record;
-use super::{file_f, live, shapes};
+use super::{file_f, live, rules, shapes};
 use crate::random::Random;
 
 const FIXED_SEED: u64 = 0x6d73_6600;
 const FIXED_CONTAINERS: u64 = 120;
 
-const SUBJECTS: [fn(&mut Random) -> About; 18] = [
+const SUBJECTS: [fn(&mut Random) -> About; 19] = [
+    rules::rows,
     file_f::whole,
     file_f::swept,
     file_f::damaged,

@@ -10,6 +10,7 @@ mod fixed;
 mod list;
 mod live;
 mod question;
+mod rules;
 mod shapes;
 mod show;
 mod source;
