@@ -8,6 +8,7 @@ use lib.Dec.{leb}
 use lib.ListN.{length}
 use lib.Seq.{sets}
 use Rattle.outcome.specs.Outcome.{Outcome, ok, refused, _>>=_, _>>_, require, Unchanged}
+use Rattle.outcome.specs.Refusal as paper
 use Rattle.outcome.specs.Store.{written}
 use Rattle.parse_buffer.specs.Bytes.{File}
 use Rattle.paged.specs.Refusal.{refusalIn}
@@ -50,7 +51,9 @@ module _ {f : File} {len k : ℕ} (limit : Limit) {r : Sought} (p : Finding f le
   module _ {why : Refusal} (e : r ≡ sought.Refused why) where
     none-placed : placed f len k limit ≡ refused (refusalIn why)
     unfolding placed soughtIn _>>=_
-    none-placed = let g : found f len k ≡ refused (refusalIn why) = sym (p .answer) ∙ ap soughtIn e in rw g
+    none-placed =
+        ap (λ (o : Outcome paper.Refusal Found). o >>= (λ x. ok (record { found = x; size = lengthOf limit (x .size) })))
+        (sym (p .answer) ∙ ap soughtIn e)
 
     below : soughtIn r ≡ refused (refusalIn why)
     unfolding soughtIn
