@@ -1,7 +1,7 @@
 //! The digest of a record's answers: two lanes, so that two wrong answers hardly ever cancel out.
 
 /// One word of an answer.
-#[derive(Clone, Copy, Debug)]
+#[derive(Clone, Copy, Debug, Eq, PartialEq)]
 pub enum Word {
     /// A count, a place, a number of a case: as it is.
     Plain(u64),

@@ -7,6 +7,9 @@
 //!
 //! These ask about binary annotations. record-msf, live-msf, show-msf and alter-msf do the same for
 //! containers; there COUNT is of random containers, of which each is asked several questions.
+//!
+//!     oracle isolation-msf SEED COUNT  COUNT pairs of containers that agree on what a stream's
+//!                                      answers depend on, of which pdb must answer the same
 
 use std::io::{self, BufWriter, Read, Write};
 
@@ -41,7 +44,7 @@ mod random;
 mod records;
 
 const USAGE: &str = "usage: oracle record | live SEED COUNT | show N | alter N, \
-                     or the same with -msf after the first word";
+                     or the same with -msf after the first word, or isolation-msf SEED COUNT";
 
 fn main() {
     let words: Vec<String> = std::env::args().skip(1).collect();
@@ -68,6 +71,9 @@ fn answer(words: &[&str], out: &mut impl Write) -> io::Result<()> {
         }
         ["show-msf", n] => out.write_all(container::show(&read(), number(n) as usize).as_bytes())?,
         ["alter-msf", n] => out.write_all(&container::altered(&read(), number(n) as usize))?,
+        ["isolation-msf", seed, count] => {
+            container::write_pairs(number(seed), number(count), out)?
+        }
         _ => stop(USAGE),
     }
     out.flush()

@@ -1,0 +1,166 @@
+//! Streams do not leak: pairs of files of equal length that agree on the bytes that answers about a
+//! stream depend on, and differ elsewhere. pdb must answer the same of both.
+
+use std::io::{self, Write};
+
+use super::files::SMALL_MAGIC;
+use super::list::{self, Record};
+use super::listed::{listed, other_pages};
+use super::live::live;
+use super::question::{Question, COUNT, EXTRACT, MAP, OPEN};
+use crate::random::Random;
+
+/// A pair is four records: each file as a base file, and the question about it.
+const RECORDS: usize = 4;
+
+struct Pair {
+    question: Question,
+    first: Vec<u8>,
+    second: Vec<u8>,
+}
+
+/// What the pairs of a list come to.
+#[derive(Default)]
+struct Figures {
+    pairs: usize,
+    bytes: usize,
+    changed: usize,
+    /// The pairs of which pdb's answers differ.
+    leaks: Vec<usize>,
+}
+
+/// Writes the list of `count` pairs, made of the files of a live list. Says how many bytes differ in
+/// them, and stops where pdb's answers do, or where there are no such pairs.
+pub fn write(seed: u64, count: u64, out: &mut impl Write) -> io::Result<()> {
+    let mut random = Random::new(!seed);
+    let mut figures = Figures::default();
+    let records = files(seed, count)
+        .filter_map(|(mut file, question)| {
+            put_small_magic(&mut random, &mut file);
+            pair(&mut random, file, question)
+        })
+        .take(count as usize)
+        .flat_map(|pair| {
+            figures.add(&pair);
+            pair.records()
+        });
+    list::write(records, out)?;
+    out.flush()?;
+    figures.judge(count);
+    Ok(())
+}
+
+/// The files of a live list, sound and damaged, and the question about each as it then is.
+fn files(seed: u64, count: u64) -> impl Iterator<Item = (Vec<u8>, Question)> {
+    let mut base = Vec::new();
+    live(seed, count).filter_map(move |record| match record {
+        Record::Base(file) => {
+            base = file;
+            None
+        }
+        Record::Question(question) => {
+            let file = question.files(&base).pop()?;
+            let edits = Vec::new();
+            Some((file, Question { edits, ..question }))
+        }
+    })
+}
+
+/// A live file has the big magic. Some get the small one, and some of these with a bit turned.
+fn put_small_magic(random: &mut Random, file: &mut [u8]) {
+    if file.len() < SMALL_MAGIC.len() || !random.one_in(32) {
+        return;
+    }
+    file[..SMALL_MAGIC.len()].copy_from_slice(SMALL_MAGIC);
+    if random.one_in(2) {
+        file[random.below(SMALL_MAGIC.len())] ^= 1 << random.below(8);
+    }
+}
+
+/// What a pair is asked for: an operation, whose list the pair agrees on, and those before it, whose
+/// lists are parts of that one. In a pair for mapping the stream's own bytes are off the list.
+fn asked(random: &mut Random) -> u8 {
+    match random.below(8) {
+        0 => OPEN,
+        1 => OPEN | COUNT,
+        2..=4 => OPEN | COUNT | MAP,
+        _ => OPEN | COUNT | MAP | EXTRACT,
+    }
+}
+
+/// The file, and a copy of it in which every byte off the list is another, or every such byte in the
+/// pages of other streams. None where there is no such byte.
+fn pair(random: &mut Random, first: Vec<u8>, question: Question) -> Option<Pair> {
+    let question = Question {
+        operations: asked(random),
+        ..question
+    };
+    let kept = listed(&first, &question);
+    let mut places: Vec<usize> = (0..first.len()).filter(|&at| !kept.has(at)).collect();
+    if random.one_in(2) {
+        let others = other_pages(&first, question.stream);
+        places.retain(|&at| others.has(at));
+    }
+    if places.is_empty() {
+        return None;
+    }
+    let mut second = first.clone();
+    for at in places {
+        second[at] ^= 1 + random.below(255) as u8;
+    }
+    Some(Pair {
+        question,
+        first,
+        second,
+    })
+}
+
+impl Pair {
+    fn changed(&self) -> usize {
+        let bytes = self.first.iter().zip(&self.second);
+        bytes.filter(|(first, second)| first != second).count()
+    }
+
+    fn leaks(&self) -> bool {
+        self.question.answers(&self.first) != self.question.answers(&self.second)
+    }
+
+    fn records(self) -> Vec<Record> {
+        vec![
+            Record::Base(self.first),
+            Record::Question(self.question.clone()),
+            Record::Base(self.second),
+            Record::Question(self.question),
+        ]
+    }
+}
+
+impl Figures {
+    fn add(&mut self, pair: &Pair) {
+        if pair.leaks() {
+            self.leaks.push(self.pairs);
+        }
+        self.pairs += 1;
+        self.bytes += pair.first.len();
+        self.changed += pair.changed();
+    }
+
+    fn judge(&self, count: u64) {
+        eprintln!(
+            "oracle: {} pairs, {} of {} bytes changed",
+            self.pairs, self.changed, self.bytes
+        );
+        if let Some(first) = self.leaks.first() {
+            crate::stop(&format!(
+                "pdb answers differently of {} pairs, first pair {} (records {} and {})",
+                self.leaks.len(),
+                first,
+                RECORDS * first + 1,
+                RECORDS * first + 3
+            ));
+        }
+        if self.changed == 0 || (self.pairs as u64) < count {
+            crate::stop("there are not as many pairs whose bytes differ");
+        }
+    }
+}
