@@ -8,7 +8,7 @@ use native.Mathlib.Numerals.{add-one, add-two, add-three}
 use borrow.Author.Tests.{le-leb, lt-leb}
 use lib.ListN.{length, set, length-append}
 use lib.Seq.{sets, length-sets}
-use lib.IntN.{ℤ, pos}
+use lib.IntN.{ℤ}
 use lib.Signed.{mag}
 use mir.Syntax.{w64}
 use mir.Val.{toZ, ofZ}
@@ -16,14 +16,13 @@ use Rattle.outcome.specs.Outcome.{Outcome, ok, refused, _>>=_, _>>_, require, r
 use Rattle.outcome.specs.Store.{written}
 use Rattle.annotations.specs.Refusal.{Stop, stop}
 use Rattle.annotations.specs.Annotation.{tripleIn}
-use Rattle.annotations.specs.Step.{Found, Stepped, annotation, end, stepAt}
-use Rattle.annotations.specs.Decode.{Run, rest, decodeAll, entriesEach, tripleEntries, entries, counted, placed, decoding}
+use Rattle.annotations.specs.Step.{Found, annotation, end, stepAt}
+use Rattle.annotations.specs.Decode.{Run, rest, decodeAll, entriesEach, tripleEntries, entries, counted, decoding}
 use Rattle.annotations.specs.Inner.{Counting, CountHandedUp, countedIn}
 use Rattle.annotations.specs.Promises.{stepIn, decodedIn, Stepping, Decoding}
 use Rattle.annotations.proofs.AnnotationLaws.{stored}
 use Rattle.annotations.proofs.RunLaws.{Moved, moved, rest-on, rest-end, rest-refused, half}
 use Rattle.annotations.specs.declared.refusal.Refusal.{Refusal}
-use Rattle.annotations.specs.declared.annotation.BinaryAnnotation.{BinaryAnnotation}
 use Rattle.annotations.specs.declared.annotation.Triple.{Triple}
 use Rattle.annotations.specs.declared.step.Annotated.{Annotated}
 use Rattle.annotations.specs.declared.step.Step.{Step}

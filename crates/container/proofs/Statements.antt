@@ -1,37 +1,33 @@
 -- The statements on the container, each proved under the name of its record.
 use mathlib.Core.Path.{_≡_, refl, sym, _∙_, ap}
 use mathlib.Core.List.{List}
-use Prim.Native.Nat.{ℕ, zero, suc, _+_, _-_, _*_, _/_, _%_, _≤_, _<_}
+use Prim.Native.Nat.{ℕ, _+_, _*_, _≤_, _<_}
 use native.Mathlib.Omega.{arith}
 use native.Mathlib.Decide.{le-ind}
 use native.Mathlib.Numerals.{add-one}
 use borrow.Author.Tests.{leb-true}
-use lib.Dec.{leb}
 use lib.ListN.{length, getD}
 use lib.Seq.{sets}
-use Rattle.outcome.specs.Outcome.{Outcome, ok, refused, _>>=_, _>>_, require}
+use Rattle.outcome.specs.Outcome.{Outcome, ok, refused, _>>=_, _>>_}
 use Rattle.outcome.specs.Refusal as paper
 use Rattle.outcome.specs.Store.{written}
 use Rattle.outcome.proofs.OutcomeLaws.{came, came-by, ok-is, passed}
 use Rattle.outcome.proofs.OnlyLaws.{only, only₂, only₃}
 use Rattle.parse_buffer.specs.Bytes.{File}
 use Rattle.parse_buffer.specs.Parse.{parseU32, parsedIn}
-use Rattle.paged.specs.PageSize.{PageSize, need}
 use Rattle.paged.specs.Pages.{directoryWord, through}
 use Rattle.paged.proofs.SizeLaws.{need-covers, need-least, word-in-page}
 use Rattle.header.specs.Promises.{openedIn, opening}
 use Rattle.directory.specs.Directory.{streamCount}
 use Rattle.directory.specs.Promises.{countedIn}
 use Rattle.directory.proofs.DirectoryLaws.{reached-size}
-use Rattle.stream.specs.Stream as stream
-use Rattle.stream.specs.Stream.{absent, sizeAt, pagesOf, pagesBefore, firstOf, ownPage, ownPages, listed, found}
+use Rattle.stream.specs.Stream.{sizeAt, pagesOf, pagesBefore, firstOf, ownPage, ownPages, found}
 use Rattle.stream.specs.declared.Found.{Found}
-use Rattle.stream.specs.declared.Sized.{Sized}
-use Rattle.stream.proofs.FindLaws.{Found-at, found-at, First-at, first-at}
+use Rattle.stream.proofs.FindLaws.{found-at, first-at}
 use Rattle.slices.specs.Slices.{Full, total, placeOf}
 use Rattle.slices.proofs.EndToEndLaws.{slices-full, slices-total, slices-place}
-use Rattle.msf.specs.Msf.{lengthOf, Placed, placed, slicesIn, mapping, bytesThrough, bytesIn, readable, extraction}
-use Rattle.msf.specs.Promises.{mappedIn, extractedIn, lengthIn, Maps, Extracts}
+use Rattle.msf.specs.Msf.{lengthOf, Placed, placed, slicesIn, mapping, bytesIn, readable, extraction}
+use Rattle.msf.specs.Promises.{mappedIn, extractedIn, lengthIn, Extracts}
 use Rattle.msf.proofs.CopyLaws.{through-length, through-at, sets-first, sets-beyond}
 use Rattle.msf.proofs.PlaceLaws.{length-most}
 use Rattle.msf.specs.declared.limit.Limit.{Limit}

@@ -1,7 +1,6 @@
 -- Each answer can be read back from what it says on paper, so no two answers say the same.
 use mathlib.Core.Path.{_≡_, refl}
 use mathlib.Core.Bool.{cond}
-use Prim.Native.Nat.{ℕ}
 use lib.Dec.{eqb}
 use Rattle.outcome.specs.Outcome.{Outcome, ok, refused}
 use Rattle.outcome.specs.Refusal as paper
@@ -14,14 +13,12 @@ use Rattle.paged.specs.Refusal.{refusalIn}
 use Rattle.paged.specs.declared.refusal.Refusal.{Refusal}
 use Rattle.paged.specs.declared.refusal.Refusal.the-variants.{UnrecognizedFileFormat, UnimplementedFeature, InvalidPageSize, PageReferenceOutOfRange, StreamNotFound, FileEnds, ShortData, NoRoom}
 use Rattle.header.specs.Promises.{openedIn}
-use Rattle.header.specs.declared.Container.{Container}
 use Rattle.header.specs.declared.Opened.{Opened}
 use Rattle.header.specs.declared.Opened.the-variants as opened
 use Rattle.directory.specs.Promises.{countedIn}
 use Rattle.directory.specs.declared.Counted.{Counted}
 use Rattle.directory.specs.declared.Counted.the-variants as counted
 use Rattle.msf.specs.Promises.{mappedIn, extractedIn}
-use Rattle.msf.specs.declared.to_slices.Mapped.{Mapped}
 use Rattle.msf.specs.declared.to_slices.Mapping.{Mapping}
 use Rattle.msf.specs.declared.to_slices.Mapping.the-variants as mapping
 use Rattle.msf.specs.declared.to_bytes.Extracted.{Extracted}

@@ -8,7 +8,7 @@ use Rattle.outcome.specs.Refusal as paper
 use Rattle.parse_buffer.specs.Bytes.{File}
 use Rattle.slices.specs.Slices.{placeOf}
 use Rattle.slices.specs.declared.SourceSlice.{SourceSlice}
-use Rattle.msf.specs.Msf.{Placed, slicesIn, mapping}
+use Rattle.msf.specs.Msf.{slicesIn, mapping}
 use Rattle.msf.specs.declared.limit.Limit.the-variants.{None}
 use Rattle.container.specs.FileF.{fileF, F}
 

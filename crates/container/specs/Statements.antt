@@ -2,9 +2,9 @@
 use mathlib.Core.Path.{_≡_}
 use mathlib.Core.List.{List}
 use Prim.Native.Nat.{ℕ, _+_, _*_, _/_, _%_, _≤_, _<_}
-use lib.ListN.{length, getD}
+use lib.ListN.{getD}
 use denote.Ref.{RefT, now}
-use Rattle.outcome.specs.Outcome.{Outcome, ok}
+use Rattle.outcome.specs.Outcome.{ok}
 use Rattle.outcome.specs.Only.{Only, Only₂, Only₃, Injective}
 use Rattle.parse_buffer.specs.Bytes.{File}
 use Rattle.parse_buffer.specs.Parse.{parsedIn, Parsing, InPlace, Taking}

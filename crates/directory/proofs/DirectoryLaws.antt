@@ -3,11 +3,10 @@ use mathlib.Core.Path.{_≡_, refl, sym, _∙_, ap}
 use Prim.Native.Nat.{ℕ, _*_, _/_, _^_, _≤_, _<_}
 use native.Mathlib.Omega.{arith}
 use borrow.Author.Tests.{le-leb, lt-leb}
-use lib.Dec.{leb}
 use mir.Syntax.{w64}
 use mir.Val.{Fits}
-use Rattle.outcome.specs.Outcome.{Outcome, ok, refused, _>>=_, _>>_, require, Unchanged}
-use Rattle.outcome.proofs.OutcomeLaws.{came, came-by, ok-is, unchanged, unreached}
+use Rattle.outcome.specs.Outcome.{ok, refused, _>>=_, _>>_, require, Unchanged}
+use Rattle.outcome.proofs.OutcomeLaws.{came, came-by, unchanged, unreached}
 use Rattle.parse_buffer.specs.Bytes.{File}
 use Rattle.paged.specs.Refusal.{refusalIn}
 use Rattle.paged.specs.PageSize.{PageSize, need}
@@ -20,11 +19,11 @@ use Rattle.paged.specs.declared.pages.Checked.{Checked}
 use Rattle.paged.specs.declared.pages.Checked.the-variants as checked
 use Rattle.header.specs.Header.{entries, directoryPages, locationPages, located}
 use Rattle.header.specs.Promises.{headedIn, Locating}
-use Rattle.header.proofs.OpenLaws.{Located, is-located}
+use Rattle.header.proofs.OpenLaws.{is-located}
 use Rattle.header.specs.declared.Header.{Header}
 use Rattle.header.specs.declared.Headed.{Headed}
 use Rattle.header.specs.declared.Headed.the-variants.{Container, Refused}
-use Rattle.directory.specs.Directory.{reached, Reached, holds, streamCount}
+use Rattle.directory.specs.Directory.{reached, Reached, streamCount}
 use Rattle.directory.specs.Promises.{countedIn, Counting, Reaching}
 use Rattle.directory.specs.declared.Counted.{Counted}
 use Rattle.directory.specs.declared.Counted.the-variants as counted

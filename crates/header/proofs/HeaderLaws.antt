@@ -1,24 +1,21 @@
 -- The ways out of steps 1 and 2, and what an accepted header is known to be.
-use mathlib.Core.Path.{_≡_, refl, sym, _∙_, ap}
-use mathlib.Core.Bool.{Bool, true, false, not, cond}
+use mathlib.Core.Path.{_≡_, sym, _∙_}
+use mathlib.Core.Bool.{Bool, true, false, not}
 use mathlib.Core.List.{List}
 use Prim.Native.Nat.{ℕ, _≤_, _<_}
 use native.Mathlib.Omega.{arith}
 use borrow.Author.Tests.{le-leb, lt-leb, leb-true, eq-eqb, ne-eqb, not-true, not-false}
 use lib.Count
-use lib.Dec.{leb}
 use lib.ListN.{length}
 use denote.Ref.{RefT, now}
-use Rattle.outcome.specs.Outcome.{Outcome, ok, refused, _>>=_, _>>_, require}
+use Rattle.outcome.specs.Outcome.{ok, _>>=_, _>>_, require}
 use Rattle.outcome.proofs.OutcomeLaws.{came, ok-is, passed}
 use Rattle.parse_buffer.specs.Bytes.{File, byteAt, word}
 use Rattle.parse_buffer.specs.Parse.{Taking}
-use Rattle.paged.specs.Refusal.{refusalIn}
 use Rattle.paged.specs.PageSize.{sizeFits, PageSize}
 use Rattle.paged.proofs.SizeLaws.{passes}
-use Rattle.paged.specs.declared.refusal.Refusal.{Refusal}
 use Rattle.paged.specs.declared.refusal.Refusal.the-variants.{UnrecognizedFileFormat, UnimplementedFeature, InvalidPageSize}
-use Rattle.header.specs.Header.{bigMagic, smallMagic, standsAt, headerBlock, headerOf, sized, headed}
+use Rattle.header.specs.Header.{bigMagic, smallMagic, standsAt, headerBlock, sized, headed}
 use Rattle.header.specs.Promises.{headedIn, Parsing}
 use Rattle.header.proofs.BlockLaws.{block-stands, block-word}
 use Rattle.header.specs.declared.Header.{Header}

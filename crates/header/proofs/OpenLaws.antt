@@ -1,14 +1,13 @@
 -- The ways out of step 3, and of opening; what a located container is known to be.
 use mathlib.Core.Path.{_≡_, refl, sym, _∙_, ap}
 use mathlib.Core.List.{List}
-use Prim.Native.Nat.{ℕ, _*_, _^_, min, _≤_, _<_}
+use Prim.Native.Nat.{ℕ, _*_, min, _≤_, _<_}
 use native.Mathlib.Omega.{arith}
 use native.Mathlib.Nat.{min-eq-left, min-eq-right, le-of-lt}
 use borrow.Author.Tests.{le-leb, lt-leb, leb-true}
-use lib.Dec.{leb}
 use lib.ListN.{length}
 use denote.Ref.{RefT, now}
-use Rattle.outcome.specs.Outcome.{Outcome, ok, refused, _>>=_, _>>_, require, Unchanged}
+use Rattle.outcome.specs.Outcome.{ok, refused, _>>=_, _>>_, require, Unchanged}
 use Rattle.outcome.proofs.OutcomeLaws.{came, came-by, ok-is, passed, unchanged, unreached}
 use Rattle.parse_buffer.specs.Bytes.{File, byteAt}
 use Rattle.parse_buffer.specs.Parse.{Taking}
@@ -21,7 +20,7 @@ use Rattle.paged.specs.declared.refusal.Refusal.{Refusal}
 use Rattle.paged.specs.declared.refusal.Refusal.the-variants.{ShortData}
 use Rattle.paged.specs.declared.pages.Checked.{Checked}
 use Rattle.paged.specs.declared.pages.Checked.the-variants as checked
-use Rattle.header.specs.Header.{headerBlock, entries, directoryPages, locationPages, headed, located}
+use Rattle.header.specs.Header.{headerBlock, entries, locationPages, headed, located}
 use Rattle.header.specs.Promises.{headedIn, openedIn, opening, Opening, Parsing, Locating}
 use Rattle.header.proofs.BlockLaws.{block-checks}
 use Rattle.header.proofs.HeaderLaws.{headed-long, headed-size}

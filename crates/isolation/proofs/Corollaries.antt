@@ -1,18 +1,13 @@
 -- The corollaries of demand 3: a list that leaves a byte out need not agree on it.
-use mathlib.Core.Path.{_≡_, refl, sym, _∙_, ap}
-use mathlib.Core.Bool.{Bool, true, false}
-use mathlib.Core.List.{List}
-use mathlib.Core.Logic.{⊎-elim}
+use mathlib.Core.Path.{_≡_}
+use mathlib.Core.Bool.{true}
 use Prim.Native.Nat.{ℕ, _+_, _≤_, _<_}
 use native.Mathlib.Omega.{arith}
 use borrow.Author.Tests.{leb-true}
-use Rattle.outcome.specs.Outcome.{ok}
 use Rattle.parse_buffer.specs.Bytes.{File}
 use Rattle.header.specs.Header.{bigMagic, standsAt}
 use Rattle.directory.specs.Directory.{words}
-use Rattle.stream.specs.Stream.{listed}
 use Rattle.stream.proofs.FindLaws.{listed-at}
-use Rattle.msf.specs.Msf.{Placed, readable}
 use Rattle.msf.specs.declared.limit.Limit.{Limit}
 use Rattle.isolation.specs.Listed.{ListedOpen, ListedCount, Listed, ListedBytes, Agree}
 use Rattle.isolation.specs.Corollaries.{Alike, DifferOnlyAt, Corollaries}

@@ -1,10 +1,10 @@
 -- Demand 3. What holds of the definitions (`Same`, `StreamSame`) holds of the operations, for each promise gives its whole
 -- answer and every store by definitions: a promise about g is one about f, and no second answer satisfies it.
-use mathlib.Core.Path.{_≡_, refl, sym, _∙_, ap}
+use mathlib.Core.Path.{_≡_, sym, _∙_, ap}
 use mathlib.Core.List.{List, map}
 use Prim.Native.Nat.{ℕ, min}
 use lib.ListN.{length}
-use Rattle.outcome.specs.Outcome.{Outcome, ok, _>>=_}
+use Rattle.outcome.specs.Outcome.{_>>=_}
 use Rattle.outcome.specs.Store.{written}
 use Rattle.parse_buffer.specs.Bytes.{File}
 use Rattle.header.specs.Promises.{opening, Opening}
@@ -12,7 +12,7 @@ use Rattle.header.specs.declared.Opened.{Opened}
 use Rattle.directory.specs.Promises.{Counting}
 use Rattle.directory.specs.declared.Counted.{Counted}
 use Rattle.slices.specs.declared.SourceSlice.{SourceSlice}
-use Rattle.msf.specs.Msf.{Placed, slicesIn, bytesIn, mapping, extraction}
+use Rattle.msf.specs.Msf.{slicesIn, bytesIn, mapping}
 use Rattle.msf.specs.Promises.{mapped, lengthIn, Maps, Extracts}
 use Rattle.msf.specs.declared.limit.Limit.{Limit}
 use Rattle.msf.specs.declared.to_slices.Mapping.{Mapping}

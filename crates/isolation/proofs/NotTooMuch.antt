@@ -1,6 +1,6 @@
 -- On file F: where the listed bytes of streams 0 and 2 stand, by computing F's header and the two streams once.
 use mathlib.Core.Path.{_≡_, refl, sym, _∙_, ap}
-use mathlib.Core.Bool.{Bool, true, false}
+use mathlib.Core.Bool.{true}
 use mathlib.Core.Logic.{_⊎_, inl, inr, ⊎-elim}
 use Prim.Native.Nat.{ℕ, zero, suc, _+_, _*_, _/_, _%_, min, _≤_, _<_}
 use native.Mathlib.Omega.{arith}
@@ -16,16 +16,14 @@ use Rattle.paged.specs.Pages.{location, directoryPage, directoryWord}
 use Rattle.paged.specs.Checks.{pageFits}
 use Rattle.header.specs.Header.{bigMagic, standsAt, sized, headed, located, directoryPages, locationPages, entries}
 use Rattle.header.specs.declared.Header.{Header}
-use Rattle.directory.specs.Directory.{words, holds, reached}
-use Rattle.directory.proofs.DirectoryLaws.{reached-located}
+use Rattle.directory.specs.Directory.{words, reached}
 use Rattle.stream.specs.Stream as stream
-use Rattle.stream.specs.Stream.{pagesOf, pagesBefore, ownPage, ownPages, listed, found}
+use Rattle.stream.specs.Stream.{pagesOf, pagesBefore, ownPage, ownPages, listed}
 use Rattle.stream.specs.declared.Found.{Found}
 use Rattle.stream.proofs.FindLaws.{listed-at, found-at, first-at}
-use Rattle.msf.specs.Msf.{Placed, slicesIn}
 use Rattle.msf.specs.declared.limit.Limit.{Limit}
 use Rattle.container.specs.FileF.{fileF, F}
-use Rattle.isolation.specs.Listed.{entryPlace, wordPlace, Named, ListedOpen, ListedCount, Listed, ListedBytes}
+use Rattle.isolation.specs.Listed.{entryPlace, wordPlace, ListedOpen, ListedCount, Listed, ListedBytes}
 use Rattle.isolation.specs.Tight.{emptyF, NotListed, NotTooMuch}
 use Rattle.isolation.proofs.StreamSame.{readable-found}
 use Rattle.isolation.proofs.PageZero.{slices-from}

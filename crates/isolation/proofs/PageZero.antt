@@ -1,25 +1,24 @@
 -- Page 0 is refused wherever a page number is read, so what is listed through a page stands past the first 256 bytes.
-use mathlib.Core.Path.{_≡_, refl, sym, _∙_, ap}
+use mathlib.Core.Path.{_≡_}
 use mathlib.Core.Bool.{Bool, true, false, cond}
 use mathlib.Core.List.{List, [], _∷_, _++_}
-use Prim.Native.Nat.{ℕ, zero, suc, _+_, _-_, _*_, _/_, _%_, min, _≤_, _<_}
+use Prim.Native.Nat.{ℕ, zero, suc, _-_, _*_, _/_, min, _≤_, _<_}
 use native.Mathlib.Omega.{arith}
 use native.Mathlib.Nat.{mul-le-mul}
-use borrow.Author.Tests.{leb-true}
-use lib.Dec.{eqb, leb}
-use Rattle.outcome.specs.Outcome.{Outcome, ok, _>>=_, _>>_, require}
-use Rattle.outcome.proofs.OutcomeLaws.{by-test, passed, came, came-by, ok-is}
+use lib.Dec.{eqb}
+use Rattle.outcome.specs.Outcome.{ok, _>>=_, _>>_}
+use Rattle.outcome.proofs.OutcomeLaws.{came, came-by, ok-is}
 use Rattle.outcome.proofs.EachLaws.{each-passed}
 use Rattle.parse_buffer.specs.Bytes.{File}
-use Rattle.paged.specs.PageSize.{PageSize, need}
-use Rattle.paged.specs.Pages.{through, location, directoryPage, directoryWord}
+use Rattle.paged.specs.PageSize.{PageSize}
+use Rattle.paged.specs.Pages.{through, location, directoryPage}
 use Rattle.paged.specs.Checks.{pageFits, checkPages}
 use Rattle.paged.proofs.SizeLaws.{need-index}
 use Rattle.header.specs.Header.{entries, directoryPages, locationPages, located}
 use Rattle.header.specs.declared.Header.{Header}
-use Rattle.header.proofs.OpenLaws.{Located, is-located}
-use Rattle.directory.specs.Directory.{words, holds, reached}
-use Rattle.directory.proofs.DirectoryLaws.{reached-located, reached-size}
+use Rattle.header.proofs.OpenLaws.{is-located}
+use Rattle.directory.specs.Directory.{words, reached}
+use Rattle.directory.proofs.DirectoryLaws.{reached-size}
 use Rattle.stream.specs.Stream.{ownPage, ownPages, found}
 use Rattle.stream.proofs.FindLaws.{found-at}
 use Rattle.slices.specs.Slices.{lengthen, continues, slicesOf, cut}

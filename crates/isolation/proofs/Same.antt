@@ -1,40 +1,31 @@
 -- Stage by stage, each over the smallest list: two files that agree on the listed bytes give the same outcome. Each proof
 -- follows its stage's `do` block line by line: `then-same` and `bind-same` hand on that the line is reached, which is what a
 -- list asks.
-use mathlib.Core.Path.{_≡_, refl, sym, _∙_, ap}
+use mathlib.Core.Path.{_≡_, refl, _∙_, ap}
 use mathlib.Core.Bool.{Bool, true, false, cond}
 use mathlib.Core.Logic.{⊎-elim}
-use mathlib.Core.List.{List, [], _∷_, _++_, map}
-use Prim.Native.Nat.{ℕ, zero, suc, _+_, _-_, _*_, _/_, _%_, min, _≤_, _<_}
+use mathlib.Core.List.{List}
+use Prim.Native.Nat.{ℕ, _*_, _/_, min, _<_}
 use native.Mathlib.Omega.{arith}
-use native.Mathlib.Nat.{le-refl}
-use borrow.Author.Tests.{leb-true, ltb-true, le-leb}
-use lib.Dec.{ltb, leb, eqb}
-use lib.ListN.{length}
+use borrow.Author.Tests.{leb-true}
 use Rattle.outcome.specs.Outcome.{Outcome, ok, refused, _>>=_, _>>_, require}
-use Rattle.outcome.specs.Refusal as paper
 use Rattle.outcome.specs.Store.{written}
 use Rattle.outcome.proofs.OutcomeLaws.{below-or, passed, came, came-by, ok-is}
 use Rattle.outcome.proofs.EachLaws.{each-same}
 use Rattle.parse_buffer.specs.Bytes.{File, word}
 use Rattle.parse_buffer.proofs.WordLaws.{word-same}
 use Rattle.paged.specs.Refusal.{refusalIn}
-use Rattle.paged.specs.PageSize.{PageSize, need}
-use Rattle.paged.specs.Pages.{through, firstEntry, location, directoryPage, directoryWord}
-use Rattle.paged.specs.Checks.{pageFits, checkPages, wanted, liesInFile}
-use Rattle.paged.specs.declared.refusal.Refusal.the-variants.{UnimplementedFeature, UnrecognizedFileFormat, PageReferenceOutOfRange}
+use Rattle.paged.specs.Pages.{location, directoryPage, directoryWord}
+use Rattle.paged.specs.Checks.{checkPages, liesInFile}
+use Rattle.paged.specs.declared.refusal.Refusal.the-variants.{UnimplementedFeature, UnrecognizedFileFormat}
 use Rattle.paged.proofs.SizeLaws.{need-index}
 use Rattle.header.specs.Header.{bigMagic, smallMagic, standsAt, entries, headerOf, directoryPages, locationPages, headed, located}
 use Rattle.header.specs.declared.Header.{Header}
 use Rattle.header.proofs.BlockLaws.{stands-same}
-use Rattle.header.proofs.OpenLaws.{Located, is-located}
+use Rattle.header.proofs.OpenLaws.{is-located}
 use Rattle.directory.specs.Directory.{words, holds, reached, streamCount}
 use Rattle.directory.proofs.DirectoryLaws.{reached-located, reached-size}
-use Rattle.stream.specs.Stream as stream
-use Rattle.stream.specs.Stream.{sizeAt, pagesOf, pagesBefore, firstOf, ownPage, ownPages, listed, found}
-use Rattle.stream.specs.declared.Sized.{Sized}
-use Rattle.stream.specs.declared.Found.{Found}
-use Rattle.isolation.specs.Listed.{InWord, entryPlace, wordPlace, ListedOpen, ListedCount, Listed, Agree}
+use Rattle.isolation.specs.Listed.{InWord, wordPlace, ListedOpen, ListedCount, Agree}
 
 -- ---- what holds of any stage
 pub bind-same : {E A B : Type 0} {x y : Outcome E A} {k l : A → Outcome E B} → x ≡ y → ((a : A) → x ≡ ok a → k a ≡ l a) → x >>= k ≡ y >>= l

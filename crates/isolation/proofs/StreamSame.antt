@@ -1,33 +1,29 @@
 -- Mapping and extraction, stage by stage, in the way of `Same`.
-use mathlib.Core.Path.{_≡_, refl, sym, _∙_, ap}
-use mathlib.Core.Bool.{Bool, true, false}
-use mathlib.Core.List.{List, [], _∷_, _++_, map}
-use Prim.Native.Nat.{ℕ, zero, suc, _+_, _-_, _*_, _/_, _%_, min, _≤_, _<_}
+use mathlib.Core.Path.{_≡_, refl, _∙_, ap}
+use mathlib.Core.List.{List, [], _∷_}
+use Prim.Native.Nat.{ℕ, zero, suc, _+_, _-_, _/_, _≤_, _<_}
 use native.Mathlib.Omega.{arith}
 use native.Mathlib.Nat.{le-refl}
 use borrow.Author.Tests.{leb-true, ltb-true, le-leb, lt-ltb, le-ltb}
 use mathlib.Core.Logic.{⊎-elim}
-use lib.Dec.{ltb, leb, eqb}
-use lib.ListN.{length}
-use Rattle.outcome.specs.Outcome.{Outcome, ok, _>>=_, _>>_, require}
-use Rattle.outcome.specs.Refusal as paper
+use Rattle.outcome.specs.Outcome.{ok, _>>=_, _>>_}
 use Rattle.outcome.proofs.OutcomeLaws.{below-or, passed, came, came-by, ok-is}
 use Rattle.parse_buffer.specs.Bytes.{File}
 use Rattle.paged.specs.PageSize.{need}
 use Rattle.paged.specs.Pages.{through, directoryWord}
 use Rattle.paged.proofs.SizeLaws.{need-index, need-least}
 use Rattle.header.specs.declared.Header.{Header}
-use Rattle.directory.specs.Directory.{words, holds, reached}
-use Rattle.stream.specs.Stream.{sizeAt, pagesOf, pagesBefore, firstOf, ownPage, ownPages, sized, listed, found}
+use Rattle.directory.specs.Directory.{words, reached}
+use Rattle.stream.specs.Stream.{sizeAt, pagesBefore, ownPage, ownPages, sized, listed, found}
 use Rattle.stream.specs.declared.Sized.{Sized}
 use Rattle.stream.specs.declared.Found.{Found}
-use Rattle.stream.proofs.FindLaws.{Listed-at, listed-at, Found-at, found-at}
-use Rattle.slices.specs.Slices.{lengthen, continues, slicesOf, cut, total, placeOf}
+use Rattle.stream.proofs.FindLaws.{listed-at, found-at}
+use Rattle.slices.specs.Slices.{continues, slicesOf, total, placeOf}
 use Rattle.slices.specs.declared.SourceSlice.{SourceSlice}
-use Rattle.msf.specs.Msf.{lengthOf, Placed, placed, slicesIn, mapping, bytesThrough, bytesIn, readable, extraction}
+use Rattle.msf.specs.Msf.{Placed, placed, slicesIn, mapping, bytesThrough, bytesIn, readable, extraction}
 use Rattle.msf.specs.declared.limit.Limit.{Limit}
 use Rattle.container.proofs.Statements.{mapping-placed, large, held, is-total, is-place}
-use Rattle.isolation.specs.Listed.{InWord, wordPlace, Named, ListedCount, Listed, ListedBytes, Agree}
+use Rattle.isolation.specs.Listed.{Named, ListedCount, Listed, ListedBytes, Agree}
 use Rattle.isolation.proofs.Same.{bind-same, then-same, check-same, lies-same, reached-same, held-same, count-same}
 
 -- ---- the slices of equal pages

@@ -1,7 +1,7 @@
 -- Document 01, "Bytes that stream k depends on", in its words and its order. Four lists, each with the one before: what
 -- opening reads, the stream count, the mapping of stream k, and its extraction. (The file's length is beside them all.)
 use mathlib.Core.Path.{_≡_}
-use mathlib.Core.Bool.{Bool, true, false}
+use mathlib.Core.Bool.{true, false}
 use mathlib.Core.List.{List, _∷_}
 use Prim.Native.Nat.{ℕ, _+_, _*_, min, _≤_, _<_}
 use Rattle.outcome.specs.Outcome.{ok}

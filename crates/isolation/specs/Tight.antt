@@ -10,13 +10,12 @@ use Rattle.outcome.specs.Refusal as paper
 use Rattle.parse_buffer.specs.Bytes.{File, byteAt}
 use Rattle.header.specs.Header.{smallMagic}
 use Rattle.header.specs.Promises.{opening}
-use Rattle.header.specs.declared.Container.{Container}
 use Rattle.directory.specs.Directory.{streamCount}
 use Rattle.msf.specs.Msf.{bytesIn, extraction}
 use Rattle.msf.specs.declared.limit.Limit.{Limit}
 use Rattle.msf.specs.declared.limit.Limit.the-variants.{AtMost}
 use Rattle.container.specs.FileF.{F}
-use Rattle.container.specs.Cases.{Answer, mappingOf, at}
+use Rattle.container.specs.Cases.{mappingOf, at}
 use Rattle.isolation.specs.Listed.{ListedBytes}
 
 -- a file with another byte at one place

@@ -1,10 +1,9 @@
 -- The ways out of mapping and of extraction.
-use mathlib.Core.Path.{_≡_, refl, sym, _∙_, ap}
+use mathlib.Core.Path.{_≡_, sym, _∙_, ap}
 use mathlib.Core.List.{List}
 use Prim.Native.Nat.{ℕ, _+_, _*_, _^_, min, _≤_, _<_}
 use native.Mathlib.Omega.{arith}
 use borrow.Author.Tests.{le-leb, lt-leb}
-use lib.Dec.{leb}
 use lib.ListN.{length}
 use lib.Seq.{sets}
 use Rattle.outcome.specs.Outcome.{Outcome, ok, refused, _>>=_, _>>_, require, Unchanged}
@@ -23,9 +22,9 @@ use Rattle.directory.proofs.DirectoryLaws.{reached-size}
 use Rattle.slices.specs.Slices.{slicesOf, cut}
 use Rattle.slices.specs.Inner.{streamPage, Writing}
 use Rattle.slices.proofs.SliceLaws.{cut-past-pages}
-use Rattle.stream.specs.Stream.{ownPage, ownPages, found}
+use Rattle.stream.specs.Stream.{ownPages, found}
 use Rattle.stream.specs.Promises.{soughtIn, Finding}
-use Rattle.stream.proofs.FindLaws.{Found-at, found-at}
+use Rattle.stream.proofs.FindLaws.{found-at}
 use Rattle.stream.specs.declared.Found.{Found}
 use Rattle.stream.specs.declared.Sought.{Sought}
 use Rattle.stream.specs.declared.Sought.the-variants as sought

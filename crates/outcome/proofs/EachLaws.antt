@@ -7,7 +7,7 @@ use native.Mathlib.Omega.{arith}
 use native.Mathlib.Nat.{le-antisymm}
 use native.Mathlib.Numerals.{add-one}
 use native.Mathlib.Decide.{le-ind}
-use Rattle.outcome.specs.Outcome.{Outcome, ok, refused, _>>_, require}
+use Rattle.outcome.specs.Outcome.{ok, refused, _>>_, require}
 use Rattle.outcome.specs.Each.{each}
 use Rattle.outcome.proofs.OutcomeLaws.{below-or, came, passed}
 

@@ -18,6 +18,4 @@ pub use refusal::PageNumber;
 pub use refusal::Refusal;
 pub use refusal::StreamNumber;
 pub use size::least;
-pub use size::page_index;
 pub use size::pages_needed_to_store;
-pub use size::place_in_page;

@@ -13,14 +13,14 @@ pub fn pages_needed_to_store(size: usize, bytes: usize) -> usize
 }
 
 // Which page holds the byte at an offset, and where in that page.
-pub fn page_index(size: usize, offset: usize) -> usize
+pub(crate) fn page_index(size: usize, offset: usize) -> usize
     requires { ⌜ PageSize size ⌝ }
     ensures { λ r. ⌜ r ≡ offset / size ⌝ }
 {
     offset / size
 }
 
-pub fn place_in_page(size: usize, offset: usize) -> usize
+pub(crate) fn place_in_page(size: usize, offset: usize) -> usize
     requires { ⌜ PageSize size ⌝ }
     ensures { λ r. ⌜ r ≡ offset % size ⌝ }
 {

@@ -1,16 +1,15 @@
 -- The ways out of the rest of step 7: the skips, and the stream's own page numbers.
 use mathlib.Core.Path.{_≡_, refl, sym, _∙_, ap}
-use mathlib.Core.Bool.{Bool, true, false}
-use Prim.Native.Nat.{ℕ, _+_, _-_, _*_, _/_, _^_, min, _≤_, _<_}
+use mathlib.Core.Bool.{false}
+use Prim.Native.Nat.{ℕ, _+_, _-_, _/_, _^_, min, _≤_, _<_}
 use native.Mathlib.Omega.{arith}
 use borrow.Author.Tests.{le-leb, lt-leb, leb-true, not-true}
-use lib.Dec.{leb, eqb}
+use lib.Dec.{eqb}
 use mir.Syntax.{w64}
 use mir.Val.{Fits}
-use Rattle.outcome.specs.Outcome.{Outcome, ok, refused, _>>=_, _>>_, require, Unchanged}
+use Rattle.outcome.specs.Outcome.{ok, refused, _>>=_, _>>_, require, Unchanged}
 use Rattle.outcome.proofs.OutcomeLaws.{came, came-by, ok-is, passed}
 use Rattle.parse_buffer.specs.Bytes.{File}
-use Rattle.paged.specs.Refusal.{refusalIn}
 use Rattle.paged.specs.PageSize.{PageSize, need}
 use Rattle.paged.specs.Pages.{directoryWord}
 use Rattle.paged.specs.Checks.{checkPages, checkedIn}
@@ -20,7 +19,7 @@ use Rattle.paged.specs.declared.pages.Checked.{Checked}
 use Rattle.paged.specs.declared.pages.Checked.the-variants as checked
 use Rattle.directory.specs.Directory.{words, reached}
 use Rattle.directory.proofs.DirectoryLaws.{reached-size}
-use Rattle.stream.specs.Stream.{absent, sizeAt, pagesOf, pagesBefore, firstOf, ownPage, ownPages, sized, listed, found}
+use Rattle.stream.specs.Stream.{absent, sizeAt, pagesOf, firstOf, ownPage, ownPages, sized, listed, found}
 use Rattle.stream.specs.Promises.{presentIn, soughtIn, Before, Sizing, Listing, Finding}
 use Rattle.stream.proofs.StreamLaws.{sized-reached}
 use Rattle.stream.specs.declared.Found.{Found}

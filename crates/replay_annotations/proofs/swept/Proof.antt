@@ -1,7 +1,7 @@
 -- `replay_annotations::swept` is safe and ends. Bytes and store keep their lengths. The measure is the number of last
 -- bytes that are left. Assumes nothing.
 use mathlib.Core.Path.{_≡_}
-use Prim.Native.Nat.{_-_, _≤_}
+use Prim.Native.Nat.{_-_}
 use native.Mathlib.Omega.{arith}
 use borrow.Author.Needs.{needs}
 use lib.ListN.{length}

@@ -1,7 +1,6 @@
 -- `replay_annotations::ask::entries` is safe and ends. The measure is what is left of the length. Assumes nothing.
 use Prim.Native.Nat.{_≤_, _-_}
 use native.Mathlib.Omega.{arith}
-use lib.ListN.{length}
 use Rattle.replay_annotations.proofs.ask.entries.Statement.{statement}
 use Rattle.replay_annotations.proofs.ask.entries.Tie as tie
 

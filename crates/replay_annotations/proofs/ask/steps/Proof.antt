@@ -1,7 +1,6 @@
 -- `replay_annotations::ask::steps` is safe and ends. The measure is the number of turns that are left. Assumes nothing.
 use Prim.Native.Nat.{_+_, _≤_, _-_}
 use native.Mathlib.Omega.{arith}
-use lib.ListN.{length}
 use Rattle.replay_annotations.proofs.ask.steps.Statement.{statement}
 use Rattle.replay_annotations.proofs.ask.steps.Tie as tie
 

@@ -1,7 +1,6 @@
 -- `replay_msf::ask::all_bytes` is safe and ends. The measure is what is left of the length. Assumes nothing.
 use Prim.Native.Nat.{_≤_, _-_}
 use native.Mathlib.Omega.{arith}
-use lib.ListN.{length}
 use Rattle.replay_msf.proofs.ask.all_bytes.Statement.{statement}
 use Rattle.replay_msf.proofs.ask.all_bytes.Tie as tie
 

@@ -1,7 +1,6 @@
 -- `replay_msf::edits::copy` is safe and ends. `to` keeps its length. The measure is what is left of it. Assumes nothing.
 use mathlib.Core.Path.{_≡_}
 use Prim.Native.Nat.{_≤_, _-_}
-use native.Mathlib.Omega.{arith}
 use borrow.Author.Needs.{needs}
 use lib.ListN.{length}
 use Rattle.replay_msf.proofs.edits.copy.Statement.{statement}
