@@ -6,7 +6,8 @@
 //!     oracle alter N          reads a list, and writes it with one wrong answer, at record N
 //!
 //! These ask about binary annotations. record-msf, live-msf, show-msf and alter-msf do the same for
-//! containers; there COUNT is of random containers, of which each is asked several questions.
+//! containers; there COUNT is of random containers, of which each is asked several questions. The
+//! same with -buffer is about the reads of a parse buffer.
 //!
 //!     oracle isolation-msf SEED COUNT  COUNT pairs of containers that agree on what a stream's
 //!                                      answers depend on, of which pdb must answer the same
@@ -38,13 +39,14 @@ mod tpi {
 
 // Our own.
 mod annotations;
+mod buffer;
 mod container;
 mod digest;
 mod random;
 mod records;
 
 const USAGE: &str = "usage: oracle record | live SEED COUNT | show N | alter N, \
-                     or the same with -msf after the first word, or isolation-msf SEED COUNT";
+                     or the same with -msf or -buffer after the first word, or isolation-msf SEED COUNT";
 
 fn main() {
     let words: Vec<String> = std::env::args().skip(1).collect();
@@ -73,6 +75,14 @@ fn answer(words: &[&str], out: &mut impl Write) -> io::Result<()> {
         ["alter-msf", n] => out.write_all(&container::altered(&read(), number(n) as usize))?,
         ["isolation-msf", seed, count] => {
             container::write_pairs(number(seed), number(count), out)?
+        }
+        ["record-buffer"] => buffer::write(buffer::fixed(), out)?,
+        ["live-buffer", seed, count] => {
+            buffer::write(buffer::live(number(seed), number(count)), out)?
+        }
+        ["show-buffer", n] => out.write_all(buffer::show(&read(), number(n) as usize).as_bytes())?,
+        ["alter-buffer", n] => {
+            out.write_all(&buffer::LAYOUT.altered(&read(), number(n) as usize))?
         }
         _ => stop(USAGE),
     }

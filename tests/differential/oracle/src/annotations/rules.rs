@@ -2,8 +2,7 @@
 //!
 //! A question asks for the number and the steps at its place and decodes the bytes with each room
 //! that a row names, so one question is enough where a row names several of these. R1 to R9, R14,
-//! R15 and R19 to R45 are about containers. R60 is about reads below the operations, which no
-//! question asks for.
+//! R15 and R19 to R45 are about containers, R60 about reads (`buffer/rules.rs`).
 
 use super::list::Question;
 

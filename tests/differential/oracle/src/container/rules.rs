@@ -1,8 +1,8 @@
 //! The inputs of `docs/RULES.md` about containers, row by row.
 //!
 //! An input is the project's file F but for what it names. As in the table, a place in F's location
-//! list or directory is the number of its byte. R11, R12 and R46 to R59 are about annotations. R60
-//! is about reads below the operations, which no question asks for.
+//! list or directory is the number of its byte. R11, R12 and R46 to R59 are about annotations, R60
+//! about reads (`buffer/rules.rs`).
 
 use super::ask::About;
 use super::files::{Container, DIRECTORY_SIZE, ENTRIES, PAGES_USED, PAGE_SIZE, SMALL_MAGIC};

@@ -1,0 +1,66 @@
+// Replays a list of questions about the reads of a parse buffer and compares: standard input has records, each a question
+// and the digest of what the Rust answers. Writes how many strings were asked and how many records differ.
+//
+// ask.rt: one question to the library. record.rt: a record's header. This file: the run.
+mod ask;
+mod record;
+
+use libc::STDIN_FILENO;
+use record::Header;
+use replay::Digest;
+use replay::Next;
+use replay::Tally;
+
+fn main() {
+    let mut bytes = [0u8; 4096];
+    let tally = run(&mut bytes);
+    tally.report();
+}
+
+// A proved loop has to end, and nothing says that the input does. So the loop counts its turns down, from a number that
+// no run uses up.
+fn run(bytes: &mut [u8]) -> Tally {
+    let mut tally = Tally::new();
+    let mut turns = u64::MAX;
+    while turns > 0 && tally.goes_on() {
+        tally = replay_record(tally, bytes);
+        turns -= 1;
+    }
+    tally
+}
+
+fn replay_record(tally: Tally, bytes: &mut [u8]) -> Tally {
+    let mut header = [0u8; 18];
+    let got = io::read_full(STDIN_FILENO, &mut header);
+    if got == 0 {
+        return tally.stopped(Next::Ended);
+    }
+    if got < 18 {
+        return tally.stopped(Next::Bad);
+    }
+    let h = record::parse(&header);
+    if !h.within_limits() {
+        return tally.stopped(Next::Bad);
+    }
+    with_header(tally, h, bytes)
+}
+
+// `bytes` is as long as a record's bytes may be.
+fn with_header(tally: Tally, h: Header, bytes: &mut [u8]) -> Tally {
+    let length = h.length;
+    if bytes.len() < length {
+        return tally.stopped(Next::Bad);
+    }
+    with_bytes(tally, h, &mut bytes[..length])
+}
+
+// Reads the record's bytes, as many as `bytes` has, and asks.
+fn with_bytes(tally: Tally, h: Header, bytes: &mut [u8]) -> Tally {
+    let got = io::read_full(STDIN_FILENO, bytes);
+    if got < bytes.len() {
+        return tally.stopped(Next::Bad);
+    }
+    let recorded = h.digest;
+    let digest = ask::answer(Digest::new(), h.question, bytes);
+    tally.counted(1, recorded.agrees(digest))
+}
