@@ -66,9 +66,9 @@ corollaries =
     record {
       unlisted = unlisted;
       other-stream = λ f g len k limit j at _. unlisted f g len k limit at;
-      page-zero = page-zero;
+      page-zero = λ f len k limit i m l. page-zero f len k limit i (omega arith) l;
       free-page-map = λ f g len k limit b.
-          off-list f g len k limit (λ i. (36 ≤ i) × (i < 40)) (λ i l p. no-free-map f len i b (p .0) (p .1) (page-zero f len k limit i (omega (arith, p .1)) l));
+          off-list f g len k limit _ (λ i l p. no-free-map f len i b (p .0) (omega (arith, p .1)) (page-zero f len k limit i (omega (arith, p .1)) l));
       reserved = λ f g len k limit.
-          off-list f g len k limit (λ i. (48 ≤ i) × (i < 52)) (λ i l p. no-reserved f len i (p .0) (p .1) (page-zero f len k limit i (omega (arith, p .1)) l));
+          off-list f g len k limit _ (λ i l p. no-reserved f len i (p .0) (p .1) (page-zero f len k limit i (omega (arith, p .1)) l));
     }
