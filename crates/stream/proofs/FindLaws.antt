@@ -1,4 +1,5 @@
--- The ways out of the rest of step 7: the skips, and the stream's own page numbers.
+-- The ways out of the rest of step 7: the sizes, the pages before the stream's own, and its own; what a stream that was
+-- found is known to be.
 use mathlib.Core.Path.{_≡_, refl, sym, _∙_, ap}
 use mathlib.Core.Bool.{false}
 use Prim.Native.Nat.{ℕ, _+_, _-_, _/_, _^_, min, _≤_, _<_}
@@ -8,7 +9,9 @@ use lib.Dec.{eqb}
 use mir.Syntax.{w64}
 use mir.Val.{Fits}
 use Rattle.outcome.specs.Outcome.{ok, refused, _>>=_, _>>_, require, Unchanged}
-use Rattle.outcome.proofs.OutcomeLaws.{came, came-by, ok-is, passed}
+use Rattle.outcome.specs.Refusal as paper
+use Rattle.outcome.proofs.OutcomeLaws.{came, came-by, ok-is, passed, Each-refusal, refuses-none, refuses-by, refuses-then, refuses-require}
+use Rattle.outcome.proofs.EachLaws.{refuses-each}
 use Rattle.parse_buffer.specs.Bytes.{File}
 use Rattle.paged.specs.PageSize.{PageSize, need}
 use Rattle.paged.specs.Pages.{directoryWord}
@@ -20,7 +23,7 @@ use Rattle.paged.specs.declared.pages.Checked.the-variants as checked
 use Rattle.directory.specs.Directory.{words, reached}
 use Rattle.directory.proofs.DirectoryLaws.{reached-size}
 use Rattle.stream.specs.Stream.{absent, sizeAt, pagesOf, firstOf, ownPage, ownPages, sized, listed, found}
-use Rattle.stream.specs.Promises.{presentIn, soughtIn, Before, Sizing, Listing, Finding}
+use Rattle.stream.specs.Promises.{presentIn, soughtIn, Before, Sizing, Skipped, Finding}
 use Rattle.stream.proofs.StreamLaws.{sized-reached}
 use Rattle.stream.specs.declared.Found.{Found}
 use Rattle.stream.specs.declared.Sized.{Sized}
@@ -29,11 +32,11 @@ use Rattle.stream.specs.declared.Present.the-variants as present
 use Rattle.stream.specs.declared.Sought.{Sought}
 use Rattle.stream.specs.declared.Sought.the-variants as sought
 
--- ---- the skips
+-- ---- the sizes
 module _ {f : File} {len k : ℕ} {r : Present} (p : Sizing f len k r) where
-  pub list-refused : {why : Refusal} (x : Sought) → r ≡ present.Refused why → Unchanged (presentIn r) (soughtIn x) → Listing f len k x
-  unfolding listed presentIn _>>=_
-  list-refused x e u =
+  pub find-refused : {why : Refusal} (x : Sought) → r ≡ present.Refused why → Unchanged (presentIn r) (soughtIn x) → Finding f len k x
+  unfolding listed found presentIn _>>=_
+  find-refused x e u =
       let g : sized f len k ≡ refused _ = sym (p .answer) ∙ ap presentIn e in
       record { answer = u .is _ (ap presentIn e) ∙ rw g }
 
@@ -42,32 +45,89 @@ module _ {f : File} {len k : ℕ} {r : Present} (p : Sizing f len k r) where
     unfolding presentIn
     sized-is = sym (p .answer) ∙ ap presentIn e
 
-    pub list-size : PageSize (x .header .size)
-    list-size = reached-size f len (sized-reached f len k sized-is)
+    pub find-size : PageSize (x .header .size)
+    find-size = reached-size f len (sized-reached f len k sized-is)
 
-    pub no-sizes : x .header .directory / 4 < 1 + x .count → Listing f len k (sought.Refused ShortData)
-    unfolding listed soughtIn require _>>=_ _>>_
+    pub no-sizes : x .header .directory / 4 < 1 + x .count → Finding f len k (sought.Refused ShortData)
+    unfolding listed found soughtIn require _>>=_ _>>_
     no-sizes l = record { answer = rw (sized-is, lt-leb (1 + x .count) (words (x .header)) l) }
 
-    module _ (l₁ : 1 + x .count ≤ x .header .directory / 4) {b : ℕ} (before : Before f (x .header .size) k b) where
-      pub first-fits : x .count < 2 ^ 32 → k < 2 ^ 32 → Fits w64 (1 + x .count + b)
-      first-fits c h = record { fits = omega (arith, before .small) }
+    pub skipped : {b : ℕ} → 1 + x .count ≤ x .header .directory / 4 → Before f (x .header .size) k b → Skipped f len k x b
+    skipped l before = record { is = sized-is; sizes = l; pages = before }
 
-      pub no-first : x .header .directory / 4 < 1 + x .count + b → Listing f len k (sought.Refused ShortData)
-      unfolding listed soughtIn require _>>=_ _>>_
-      no-first l =
-          record {
-            answer = rw (sized-is, le-leb (1 + x .count) (words (x .header)) l₁, ← before .is, lt-leb (1 + x .count + b) (words (x .header)) l);
-          }
+pub ruleset find-cases = (find-refused, no-sizes)
 
-      pub is-listed : 1 + x .count + b ≤ x .header .directory / 4 → Listing f len k (sought.Found (record { header = x .header; size = x .size; first = 1 + x .count + b }))
-      unfolding listed soughtIn require _>>=_ _>>_
-      is-listed l =
-          record {
-            answer = rw (sized-is, le-leb (1 + x .count) (words (x .header)) l₁, ← before .is, le-leb (1 + x .count + b) (words (x .header)) l);
-          }
+-- ---- the pages before the stream's own, and its own
+module _ {f : File} {len k : ℕ} {x : Sized} {b : ℕ} (s : Skipped f len k x b) where
+  pub after-size : PageSize (x .header .size)
+  after-size = reached-size f len (sized-reached f len k (s .is))
 
-pub ruleset list-cases = (list-refused, no-sizes, no-first, is-listed)
+  pub first-fits : x .count < 2 ^ 32 → k < 2 ^ 32 → Fits w64 (1 + x .count + b)
+  first-fits c h = record { fits = omega (arith, s .pages .small) }
+
+  pub no-first : x .header .directory / 4 < 1 + x .count + b → Finding f len k (sought.Refused ShortData)
+  unfolding listed found soughtIn require _>>=_ _>>_
+  no-first l =
+      record {
+        answer = rw (s .is, le-leb (1 + x .count) (words (x .header)) (s .sizes), ← s .pages .is, lt-leb (1 + x .count + b) (words (x .header)) l);
+      }
+
+  module _ (l : 1 + x .count + b ≤ x .header .directory / 4) where
+    abbrev here : Found
+    here = record { header = x .header; size = x .size; first = 1 + x .count + b }
+
+    listed-is : listed f len k ≡ ok here
+    unfolding listed require _>>=_ _>>_
+    listed-is =
+        rw (s .is, le-leb (1 + x .count) (words (x .header)) (s .sizes), ← s .pages .is, le-leb (1 + x .count + b) (words (x .header)) l)
+
+    module _ {n : ℕ} (pages : n ≡ need (x .header .size) (x .size)) {m : ℕ} (entries : m ≡ min n (x .header .directory / 4 - (1 + x .count + b))) where
+      pub entries-fit : x .header .directory < 2 ^ 32 → 1 + x .count + b + m ≤ 2 ^ 32
+      entries-fit h = omega arith
+
+      module _ (c : Checked) (g : checkedIn c ≡ checkPages (x .header .used) (ownPage f here) m) where
+        checked-is : checkPages (x .header .used) (ownPage f here) (min (ownPages here) (words (x .header) - here .first)) ≡ checkedIn c
+        checked-is = rw (← pages, ← entries) (sym g)
+
+        pub after-bad : {why : Refusal} (y : Sought) → c ≡ checked.Refused why → Unchanged (checkedIn c) (soughtIn y) → Finding f len k y
+        unfolding found checkedIn _>>=_ _>>_
+        after-bad y w u = record { answer = u .is _ (ap checkedIn w) ∙ rw (listed-is, checked-is, w) }
+
+        module _ (w : c ≡ checked.Fine) where
+          pub after-short : x .header .directory / 4 - (1 + x .count + b) < n → Finding f len k (sought.Refused ShortData)
+          unfolding found checkedIn soughtIn require _>>=_ _>>_
+          after-short q =
+              record {
+                answer = rw (listed-is, checked-is, w, ← pages, lt-leb (1 + x .count + b + n) (words (x .header)) (omega arith));
+              }
+
+          pub after-fine : n ≤ x .header .directory / 4 - (1 + x .count + b) → Finding f len k (sought.Found here)
+          unfolding found checkedIn soughtIn require _>>=_ _>>_
+          after-fine q =
+              record {
+                answer = rw (listed-is, checked-is, w, ← pages, le-leb (1 + x .count + b + n) (words (x .header)) (omega arith));
+              }
+
+  -- no refusal here is 5
+  abbrev Not-5 : paper.Refusal → Type 0
+  Not-5 why = eqb (why .number) 5 ≡ false
+
+  listed-not-5 : Each-refusal Not-5 (listed f len k)
+  unfolding listed _>>=_
+  listed-not-5 =
+      rw (s .is)
+      (refuses-then Not-5 _ _ (refuses-require Not-5 _ _ refl)
+      (refuses-then Not-5 _ _ (refuses-require Not-5 _ _ refl) (refuses-none Not-5 _)))
+
+  pub found-not-5 : Each-refusal Not-5 (found f len k)
+  unfolding found
+  found-not-5 =
+      refuses-by Not-5 _ _ listed-not-5
+      (λ y.
+      refuses-then Not-5 _ _ (refuses-each Not-5 _ _ (λ j. refl) _)
+      (refuses-then Not-5 _ _ (refuses-require Not-5 _ _ refl) (refuses-none Not-5 _)))
+
+pub ruleset after-cases = (no-first, after-bad, after-short, after-fine)
 
 -- ---- what a listed stream is known to be: its header is the one reached, and its first entry is in the directory
 pub record Listed-at (f : File) (len k : ℕ) (x : Found) : Type 0 where
@@ -84,54 +144,6 @@ listed-at f len k {x} e =
       reached = sized-reached f len k s ∙ ap (λ (z : Found). ok (z .header)) (ok-is e₃);
       inside = rw (← ok-is e₃) (leb-true _ _ (passed _ _ l));
     }
-
--- ---- the stream's own page numbers
-module _ {f : File} {len k : ℕ} {r : Sought} (p : Listing f len k r) where
-  pub find-refused : {why : Refusal} → r ≡ sought.Refused why → Finding f len k r
-  unfolding found soughtIn _>>=_
-  find-refused e =
-      let g : listed f len k ≡ refused _ = sym (p .answer) ∙ ap soughtIn e in
-      record { answer = ap soughtIn e ∙ rw g }
-
-  module _ {x : Found} (e : r ≡ sought.Found x) where
-    listed-is : listed f len k ≡ ok x
-    unfolding soughtIn
-    listed-is = sym (p .answer) ∙ ap soughtIn e
-
-    pub find-size : PageSize (x .header .size)
-    find-size = reached-size f len (listed-at f len k listed-is .reached)
-
-    pub first-inside : x .first ≤ x .header .directory / 4
-    first-inside = listed-at f len k listed-is .inside
-
-    module _ {n : ℕ} (pages : n ≡ need (x .header .size) (x .size)) {m : ℕ} (entries : m ≡ min n (x .header .directory / 4 - x .first)) where
-      pub entries-fit : x .header .directory < 2 ^ 32 → x .first + m ≤ 2 ^ 32
-      entries-fit h = omega (arith, first-inside)
-
-      module _ (c : Checked) (g : checkedIn c ≡ checkPages (x .header .used) (ownPage f x) m) where
-        checked-is : checkPages (x .header .used) (ownPage f x) (min (ownPages x) (words (x .header) - x .first)) ≡ checkedIn c
-        checked-is = rw (← pages, ← entries) (sym g)
-
-        pub find-bad : {why : Refusal} (y : Sought) → c ≡ checked.Refused why → Unchanged (checkedIn c) (soughtIn y) → Finding f len k y
-        unfolding found checkedIn _>>=_ _>>_
-        find-bad y w u = record { answer = u .is _ (ap checkedIn w) ∙ rw (listed-is, checked-is, w) }
-
-        module _ (w : c ≡ checked.Fine) where
-          pub find-short : x .header .directory / 4 - x .first < n → Finding f len k (sought.Refused ShortData)
-          unfolding found checkedIn soughtIn require _>>=_ _>>_
-          find-short l =
-              record {
-                answer = rw (listed-is, checked-is, w, ← pages, lt-leb (x .first + n) (words (x .header)) (omega (arith, first-inside)));
-              }
-
-          pub find-fine : n ≤ x .header .directory / 4 - x .first → Finding f len k (sought.Found x)
-          unfolding found checkedIn soughtIn require _>>=_ _>>_
-          find-fine l =
-              record {
-                answer = rw (listed-is, checked-is, w, ← pages, le-leb (x .first + n) (words (x .header)) (omega (arith, first-inside)));
-              }
-
-pub ruleset find-cases = (find-refused, find-bad, find-short, find-fine)
 
 -- ---- what a stream that was found is known to be: its header is the one reached, all its page numbers stand in the
 -- directory, and each of them passed

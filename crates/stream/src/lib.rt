@@ -20,10 +20,10 @@ ghost use Rattle.paged.specs.PageSize.{PageSize};
 ghost use Rattle.paged.specs.Checks.{checkedIn};
 ghost use Rattle.header.specs.Promises.{headedIn};
 ghost use Rattle.stream.specs.Stream.{pagesOf};
-ghost use Rattle.stream.specs.Promises.{presentIn, soughtIn, Before, Sizing, Listing, Finding};
+ghost use Rattle.stream.specs.Promises.{presentIn, soughtIn, Before, Sizing, Skipped, Finding};
 
 // The size of a stream that is not there.
-const ABSENT: u32 = 0xffffffff;
+pub const ABSENT: u32 = 0xffffffff;
 
 // A stream found: its size, and which word of the directory is its first page number.
 pub struct Found {
@@ -53,15 +53,34 @@ pub enum Present {
 pub fn find(file: &[u8], stream: StreamNumber) -> Sought
     ensures { λ r. ⌜ Finding (byteAt (now (file .entry))) (length (now (file .entry))) (stream .0) r ⌝ }
 {
-    let listed = list(file, stream);
-    let Sought::Found(x) = listed else {
-        return listed;
+    let present = size_of(file, stream);
+    let Present::Sized(x) = present else {
+        return up_present(present);
     };
     let h = x.header;
-    let size = h.size as usize;
-    let first = x.first;
-    let n = pages_needed_to_store(size, x.size as usize);
     let words = h.directory as usize / 4;
+    let sizes = 1 + x.count as usize;
+    if words < sizes {
+        return Sought::Refused(Refusal::ShortData);
+    }
+    let before = pages_before(file, h.size as usize, stream.0 as usize);
+    find_after(file, stream, x, before)
+}
+
+// The rest of step 7 for a stream that is present, in a directory that holds all sizes, given how many page numbers the
+// streams before it have: these are skipped, and its own are checked.
+pub fn find_after(file: &[u8], stream: StreamNumber, x: Sized, before: usize) -> Sought
+    requires { ⌜ Skipped (byteAt (now file)) (length (now file)) (stream .0) x before ⌝ }
+    ensures { λ r. ⌜ Finding (byteAt (now (file .entry))) (length (now (file .entry))) (stream .0) r ⌝ }
+{
+    let h = x.header;
+    let size = h.size as usize;
+    let words = h.directory as usize / 4;
+    let first = 1 + x.count as usize + before;
+    if words < first {
+        return Sought::Refused(Refusal::ShortData);
+    }
+    let n = pages_needed_to_store(size, x.size as usize);
     let left = words - first;
     let entries = least(n, left);
     let checked = check_pages(file, size, h.used, Pages::Stream(first), entries);
@@ -69,29 +88,6 @@ pub fn find(file: &[u8], stream: StreamNumber) -> Sought
         return up_checked(checked);
     };
     if left < n {
-        return Sought::Refused(Refusal::ShortData);
-    }
-    listed
-}
-
-// The sizes after the stream's own, and the page numbers of the streams before it, are skipped.
-fn list(file: &[u8], stream: StreamNumber) -> Sought
-    ensures { λ r. ⌜ Listing (byteAt (now (file .entry))) (length (now (file .entry))) (stream .0) r ⌝ }
-{
-    let present = size_of(file, stream);
-    let Present::Sized(x) = present else {
-        return up_present(present);
-    };
-    let h = x.header;
-    let size = h.size as usize;
-    let words = h.directory as usize / 4;
-    let sizes = 1 + x.count as usize;
-    if words < sizes {
-        return Sought::Refused(Refusal::ShortData);
-    }
-    let before = pages_before(file, size, stream.0 as usize);
-    let first = sizes + before;
-    if words < first {
         return Sought::Refused(Refusal::ShortData);
     }
     Sought::Found(Found {
@@ -135,7 +131,7 @@ fn size_of(file: &[u8], stream: StreamNumber) -> Present
 }
 
 // How many page numbers the streams before k have.
-fn pages_before(file: &[u8], size: usize, k: usize) -> usize
+pub fn pages_before(file: &[u8], size: usize, k: usize) -> usize
     requires { ⌜ PageSize size ⌝ }
     requires { ⌜ k < 2 ^ 32 ⌝ }
     ensures { λ r. ⌜ Before (byteAt (now (file .entry))) size k r ⌝ }
@@ -151,7 +147,7 @@ fn pages_before(file: &[u8], size: usize, k: usize) -> usize
 }
 
 // The pages of a stream of this size: none where it is absent.
-fn pages_of(size: usize, bytes: u32) -> usize
+pub fn pages_of(size: usize, bytes: u32) -> usize
     requires { ⌜ PageSize size ⌝ }
     ensures { λ r. ⌜ r ≡ pagesOf size bytes ⌝ }
 {

@@ -1,79 +1,67 @@
--- One law of `FindLaws` for each way out. The first entry stands in the directory, so what is left does not wrap.
+-- One law of `FindLaws` for each way out; the rest of the step is `find_after`'s.
 -- Assumes nothing.
 use borrow.Author.Needs.{needs}
-use Rattle.stream.proofs.FindLaws.{find-cases, find-size, first-inside, entries-fit}
+use Rattle.stream.proofs.FindLaws.{find-cases, find-size, skipped}
 use Rattle.stream.proofs.find.Statement.{statement}
 use Rattle.stream.proofs.find.Tie as tie
 
-list-requires : tie.Need-list-requires
-list-requires c κs = search needs
+size-of-requires : tie.Need-size-of-requires
+size-of-requires c κs = search needs
 
-enum-known-listed : tie.Need-enum-known-listed
-enum-known-listed c = search needs
+enum-known-present : tie.Need-enum-known-present
+enum-known-present c = search needs
 
 enum-told : tie.Need-enum-told
 enum-told c = search needs
 
+up-present-requires : tie.Need-up-present-requires
+up-present-requires c κs = search needs
+
 returns : tie.Need-returns
 returns c = search find-cases
-
-cast-size : tie.Need-cast-size
-cast-size c = search needs
-
-cast-pages-needed-to-store : tie.Need-cast-pages-needed-to-store
-cast-pages-needed-to-store c = search needs
-
-pages-needed-to-store-requires : tie.Need-pages-needed-to-store-requires
-pages-needed-to-store-requires c κs = (search find-size, search needs)
 
 cast-words : tie.Need-cast-words
 cast-words c = search needs
 
-sub-left : tie.Need-sub-left
-sub-left c = search first-inside
+cast-sizes : tie.Need-cast-sizes
+cast-sizes c = search needs
 
-least-requires : tie.Need-least-requires
-least-requires c κs = search needs
-
-check-pages-requires : tie.Need-check-pages-requires
-check-pages-requires c κs = (search find-size, search (entries-fit, needs))
-
-enum-told-2 : tie.Need-enum-told-2
-enum-told-2 c = search needs
-
-enum-told-3 : tie.Need-enum-told-3
-enum-told-3 c = search needs
-
-up-checked-requires : tie.Need-up-checked-requires
-up-checked-requires c κs = search needs
+add-sizes : tie.Need-add-sizes
+add-sizes c = search needs
 
 returns-2 : tie.Need-returns-2
 returns-2 c = search find-cases
 
-returns-3 : tie.Need-returns-3
-returns-3 c = search find-cases
+cast-pages-before : tie.Need-cast-pages-before
+cast-pages-before c = search needs
 
-returns-4 : tie.Need-returns-4
-returns-4 c = search find-cases
+cast-pages-before-2 : tie.Need-cast-pages-before-2
+cast-pages-before-2 c = search needs
+
+pages-before-requires : tie.Need-pages-before-requires
+pages-before-requires c κs = (search find-size, search needs)
+
+find-after-requires : tie.Need-find-after-requires
+find-after-requires c κs = search skipped
+
+returns-3 : tie.Need-returns-3
+returns-3 c = search needs
 
 pub find-spec : {M : Type 1} → statement M
 find-spec =
     tie.close
     (tie.spec
-    list-requires
-    enum-known-listed
+    size-of-requires
+    enum-known-present
     enum-told
+    up-present-requires
     returns
-    cast-size
-    cast-pages-needed-to-store
-    pages-needed-to-store-requires
     cast-words
-    sub-left
-    least-requires
-    check-pages-requires
-    enum-told-2
-    enum-told-3
-    up-checked-requires
+    cast-sizes
+    add-sizes
     returns-2
-    returns-3
-    returns-4)
+    cast-pages-before
+    cast-pages-before-2
+    pages-before-requires
+    find-after-requires
+    returns-3)

@@ -1,0 +1,53 @@
+// Lists the container on standard input: which streams it holds. The library judges and makes the lines; here they are
+// only passed on.
+use libc::STDIN_FILENO;
+use libc::STDOUT_FILENO;
+use listing::INPUT_LIMIT;
+use listing::ListRefusal;
+use listing::Listed;
+use listing::Place;
+
+fn main() {
+    let mut input = [0; 65536];
+    let mut out = [0; 65536];
+    let n = io::read_full(STDIN_FILENO, &mut input);
+    let mut more = [0; 1];
+    if io::read_full(STDIN_FILENO, &mut more) == 0 {
+        print_listing(&input[..n], &mut out);
+    } else {
+        print_refusal(ListRefusal::OverLimit(INPUT_LIMIT as u32), &mut out);
+    }
+}
+
+// A proved loop has to end. Each turn passes a line on at least, and no listing has so many.
+fn print_listing(file: &[u8], out: &mut [u8]) {
+    let mut from = Place::Head;
+    let mut turns = u64::MAX;
+    while turns > 0 {
+        let listed = listing::list(file, from, out);
+        let Listed::Part(part) = listed else {
+            return print_whole_refusal(listed, out);
+        };
+        let n = part.bytes;
+        let next = part.next;
+        if !io::write_all(STDOUT_FILENO, &out[..n]) {
+            return;
+        }
+        if let Place::End = next {
+            return;
+        }
+        from = next;
+        turns -= 1;
+    }
+}
+
+fn print_whole_refusal(listed: Listed, out: &mut [u8]) {
+    if let Listed::Refused(why) = listed {
+        print_refusal(why, out);
+    }
+}
+
+fn print_refusal(why: ListRefusal, out: &mut [u8]) {
+    let n = listing::list_refusal(why, out);
+    io::write_all(STDOUT_FILENO, &out[..n]);
+}

@@ -1,0 +1,5 @@
+pub mod TextLaws
+pub mod WholeLaws
+pub mod PlaceLaws
+pub mod LineLaws
+pub mod ListLaws

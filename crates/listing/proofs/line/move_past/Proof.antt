@@ -1,0 +1,25 @@
+-- The head has no pages; past a stream come its own.
+-- Assumes a page size that passes, a line number of 32 bits, and the count of pages before it.
+use borrow.Author.Needs.{needs}
+use Rattle.listing.proofs.LineLaws.{past-cases, past-fits}
+use Rattle.listing.proofs.line.move_past.Statement.{statement}
+use Rattle.listing.proofs.line.move_past.Tie as tie
+
+returns : tie.Need-returns
+returns c = search past-cases
+
+directory-word-requires : tie.Need-directory-word-requires
+directory-word-requires c κs = search needs
+
+pages-of-requires : tie.Need-pages-of-requires
+pages-of-requires c κs = search needs
+
+add-result : tie.Need-add-result
+add-result c = search (past-fits, needs)
+
+returns-2 : tie.Need-returns-2
+returns-2 c = search past-cases
+
+pub move-past-spec : {M : Type 1} → statement M
+move-past-spec =
+    tie.close (tie.spec returns directory-word-requires pages-of-requires add-result returns-2)

@@ -1,0 +1,66 @@
+-- The promises of the listing: the whole answer, and the lent buffer at exit.
+use mathlib.Core.Path.{_≡_}
+use mathlib.Core.Bool.{cond}
+use mathlib.Core.List.{List}
+use Prim.Native.Nat.{ℕ, _+_, _-_}
+use lib.Dec.{leb}
+use lib.ListN.{length}
+use lib.Seq.{sets}
+use Rattle.outcome.specs.Outcome.{Outcome, ok, refused, _>>=_}
+use Rattle.outcome.specs.Refusal as paper
+use Rattle.outcome.specs.Store.{written}
+use Rattle.parse_buffer.specs.Bytes.{File}
+use Rattle.paged.specs.Refusal.{refusalIn}
+use Rattle.listing.specs.Text.{refusalText}
+use Rattle.listing.specs.Listing.{overLimit, listable, lineAt, linesFrom, lineOf, placeOf, most}
+use Rattle.listing.specs.declared.place.Place.{Place}
+use Rattle.listing.specs.declared.refusal.ListRefusal.{ListRefusal}
+use Rattle.listing.specs.declared.refusal.ListRefusal.the-variants.{Container, OverLimit}
+use Rattle.listing.specs.declared.Part.{Part}
+use Rattle.listing.specs.declared.Listed.{Listed}
+use Rattle.listing.specs.declared.Listed.the-variants as listed
+
+-- ---- what each answer of the code says on paper
+abbrev pub listRefusalIn : ListRefusal → paper.Refusal
+listRefusalIn (Container why) = refusalIn why
+listRefusalIn (OverLimit limit) = overLimit limit
+
+unfoldable pub listedIn : Listed → Outcome paper.Refusal Part
+listedIn (listed.Part p) = ok p
+listedIn (listed.Refused why) = refused (listRefusalIn why)
+
+-- ---- `list`: as many whole lines as fit, from a place on
+pub record Lines : Type 0 where
+  pub count : ℕ
+  pub from : ℕ
+  pub many : ℕ
+
+abbrev pub linesIn : File → ℕ → ℕ → ℕ → ℕ → Lines
+linesIn f len n from room = record { count = n; from = from; many = most room (lineAt f len n) from (1 + n - from) }
+
+unfoldable pub fitting : File → ℕ → Place → ℕ → Outcome paper.Refusal Lines
+fitting f len place room = do
+  n ← listable f len
+  ok (linesIn f len n (lineOf n place) room)
+
+-- their bytes
+abbrev pub textOf : File → ℕ → Lines → List ℕ
+textOf f len l = linesFrom (lineAt f len (l .count)) (l .from) (l .many)
+
+-- how many bytes, and where the listing goes on
+abbrev pub partIn : File → ℕ → Lines → Part
+partIn f len l = record { bytes = length (textOf f len l); next = placeOf (l .count) (l .from + l .many) }
+
+unfoldable pub partOf : File → ℕ → Outcome paper.Refusal Lines → Outcome paper.Refusal Part
+partOf f len o = do
+  l ← o
+  ok (partIn f len l)
+
+pub record Lists (f : File) (len : ℕ) (place : Place) (out : List ℕ) (r : Listed) (out′ : List ℕ) : Type 0 where
+  pub answer : listedIn r ≡ partOf f len (fitting f len place (length out))
+  pub after : out′ ≡ written (fitting f len place (length out)) (textOf f len) out
+
+-- ---- `list_refusal`: the whole line, or nothing
+pub record Refuses (why : paper.Refusal) (out : List ℕ) (r : ℕ) (out′ : List ℕ) : Type 0 where
+  pub answer : r ≡ cond (leb (length (refusalText why)) (length out)) (length (refusalText why)) 0
+  pub after : out′ ≡ cond (leb (length (refusalText why)) (length out)) (sets out 0 (refusalText why)) out
