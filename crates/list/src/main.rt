@@ -19,26 +19,36 @@ fn main() {
     }
 }
 
-// A proved loop has to end. Each turn passes a line on at least, and no listing has so many.
+// Part after part. A proved loop has to end: each turn passes a line on at least, and no listing has so many.
 fn print_listing(file: &[u8], out: &mut [u8]) {
     let mut from = Place::Head;
     let mut turns = u64::MAX;
-    while turns > 0 {
-        let listed = listing::list(file, from, out);
-        let Listed::Part(part) = listed else {
-            return print_whole_refusal(listed, out);
-        };
-        let n = part.bytes;
-        let next = part.next;
-        if !io::write_all(STDOUT_FILENO, &out[..n]) {
-            return;
-        }
-        if let Place::End = next {
-            return;
-        }
-        from = next;
+    while turns > 0 && goes_on(from) {
+        from = print_part(file, from, out);
         turns -= 1;
     }
+}
+
+fn goes_on(place: Place) -> bool {
+    match place {
+        Place::End => false,
+        _ => true,
+    }
+}
+
+// The lines from a place on, as many as `out` holds, and the place after them; the end where nothing more is to be
+// written, or can be.
+fn print_part(file: &[u8], from: Place, out: &mut [u8]) -> Place {
+    let listed = listing::list(file, from, out);
+    let Listed::Part(part) = listed else {
+        print_whole_refusal(listed, out);
+        return Place::End;
+    };
+    let n = part.bytes;
+    if !io::write_all(STDOUT_FILENO, &out[..n]) {
+        return Place::End;
+    }
+    part.next
 }
 
 fn print_whole_refusal(listed: Listed, out: &mut [u8]) {

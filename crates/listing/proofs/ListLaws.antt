@@ -1,20 +1,24 @@
 -- Line after line: what stands in the buffer after some of them, and that no more fit when the loop stops.
 use mathlib.Core.Path.{_≡_, refl, sym, _∙_, ap}
+use mathlib.Core.Bool.{cond}
 use mathlib.Core.List.{List, [], _++_}
 use Prim.Native.Nat.{ℕ, zero, suc, _+_, _-_, _≤_, _<_}
 use native.Mathlib.Omega.{arith}
 use native.Mathlib.Numerals.{add-one}
 use native.Mathlib.Decide.{le-ind}
-use borrow.Author.Tests.{le-leb, lt-leb}
-use lib.ListN.{length, take, drop, length-append}
+use borrow.Author.Tests.{le-leb, lt-leb, leb-true}
+use lib.Dec.{leb}
+use lib.ListN.{length, take, drop, length-append, length-take}
 use lib.Seq.{sets, sets-eq, length-sets, take-at}
 use Rattle.outcome.specs.Outcome.{Outcome, ok, refused, _>>=_, Unchanged}
 use Rattle.outcome.specs.Refusal as paper
+use Rattle.outcome.proofs.OutcomeLaws.{by-test, came-by, ok-is}
 use Rattle.outcome.specs.Store.{written}
 use Rattle.parse_buffer.specs.Bytes.{File}
+use Rattle.io.specs.Counts.{Counts}
 use Rattle.listing.specs.Text.{refusalText}
 use Rattle.listing.specs.Listing.{listable, lineAt, linesFrom, lineOf, placeOf, most}
-use Rattle.listing.specs.Promises.{listRefusalIn, listedIn, linesIn, fitting, textOf, partOf, Lists, Refuses}
+use Rattle.listing.specs.Promises.{listRefusalIn, listedIn, linesIn, fitting, textOf, partIn, partOf, Lists, Refuses}
 use Rattle.listing.specs.Inner.{Putting, judging, judgedIn, Judges, Whole, Writes}
 use Rattle.listing.proofs.TextLaws.{sets-append}
 use Rattle.listing.proofs.PlaceLaws.{place-end}
@@ -52,6 +56,14 @@ module _ (room : ℕ) (line : ℕ → List ℕ) (from : ℕ) where
           let o : room < length (linesFrom line from (suc k)) = omega (arith, e .0, longer k) in
           (o, rw (lt-leb _ _ o) (e .1)))
           all l
+
+  pub most-fits : (m : ℕ) → length (linesFrom line from (most room line from m)) ≤ room
+  unfolding most linesFrom
+  most-fits zero = omega arith
+  most-fits (suc m) =
+      by-test (λ (k : ℕ). length (linesFrom line from k) ≤ room) (leb (length (linesFrom line from (suc m))) room)
+      (λ e. leb-true _ _ e)
+      (λ _. most-fits m)
 
 -- ---- what was written, as the front of a text or a buffer
 -- a line at the front of a text that has room for it
@@ -186,3 +198,44 @@ module _ {why : paper.Refusal} {number value : ℕ} (a : number ≡ why .number)
         }
 
 pub ruleset refusal-cases = (refusal-no-room, refusal-put)
+
+-- ---- the answer counts bytes of the buffer
+written-ok : {E A B : Type 0} {o : Outcome E A} {a : A} (entries : A → List B) (store : List B) → o ≡ ok a → written o entries store ≡ sets store 0 (entries a)
+unfolding written
+written-ok entries store e = rw e
+
+part-counts : {f : File} {len : ℕ} {place : Place} {out out′ : List ℕ} {r : Listed} {p : Part} → Lists f len place out r out′ → r ≡ listed.Part p → Counts (p .bytes) out′
+unfolding partOf fitting listedIn
+part-counts {f} {len} {place} {out} {out′} {r} {p} l e =
+    let a : partOf f len (fitting f len place (length out)) ≡ ok p = sym (l .answer) ∙ ap listedIn e in
+    came-by _ _ a λ x g a₁.
+    came-by _ _ g λ n _ g₁.
+    let lines : linesIn f len n (lineOf n place) (length out) ≡ x = ok-is g₁ in
+    let is : partIn f len x ≡ p = ok-is a₁ in
+    let m : length (textOf f len x) ≤ length out = rw (← lines) (most-fits (length out) (lineAt f len n) (lineOf n place) (1 + n - lineOf n place)) in
+    let b : p .bytes ≤ length out = rw (← is) m in
+    let w : written (fitting f len place (length out)) (textOf f len) out ≡ sets out 0 (textOf f len x) = written-ok (textOf f len) out g in
+    let k : length out′ ≡ length out = ap length (l .after ∙ w) ∙ length-sets out 0 (textOf f len x) in
+    (omega arith, simp length-take (omega arith))
+
+refusal-counts : {why : paper.Refusal} {out out′ : List ℕ} {r : ℕ} → Refuses why out r out′ → Counts r out′
+refusal-counts {why} {out} {out′} {r} x =
+    let fits : cond (leb (length (refusalText why)) (length out)) (length (refusalText why)) 0 ≤ length out = by-test (λ (k : ℕ). k ≤ length out) (leb (length (refusalText why)) (length out)) (λ e. leb-true _ _ e) (λ _. omega arith) in
+    let same : length (cond (leb (length (refusalText why)) (length out)) (sets out 0 (refusalText why)) out) ≡ length out = by-test (λ (k : List ℕ). length k ≡ length out) (leb (length (refusalText why)) (length out)) (λ _. length-sets out 0 (refusalText why)) (λ _. refl) in
+    let k : length out′ ≡ length out = ap length (x .after) ∙ same in
+    let b : r ≤ length out = rw (x .answer) fits in
+    (omega arith, simp length-take (omega arith))
+
+module _ {f : File} {len : ℕ} {place : Place} {out out′ : List ℕ} {r : Listed} {p : Part} (l : Lists f len place out r out′) (e : r ≡ listed.Part p) where
+  pub part-within : p .bytes ≤ length out′
+  part-within = part-counts l e .0
+
+  pub part-count : p .bytes ≡ length (take (p .bytes) out′)
+  part-count = part-counts l e .1
+
+module _ {why : paper.Refusal} {out out′ : List ℕ} {r : ℕ} (x : Refuses why out r out′) where
+  pub refusal-within : r ≤ length out′
+  refusal-within = refusal-counts x .0
+
+  pub refusal-count : r ≡ length (take r out′)
+  refusal-count = refusal-counts x .1
