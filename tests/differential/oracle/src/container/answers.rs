@@ -29,7 +29,7 @@ const INVALID_PAGE_SIZE: u64 = 3;
 const PAGE_REFERENCE_OUT_OF_RANGE: u64 = 4;
 const STREAM_NOT_FOUND: u64 = 5;
 const FILE_ENDS: u64 = 6;
-const SHORT_DATA: u64 = 7;
+pub const SHORT_DATA: u64 = 7;
 const NO_ROOM: u64 = 10;
 
 const HEADER_BLOCK: usize = 4096;
@@ -62,13 +62,31 @@ fn opened(file: &[u8]) -> Result<(u64, u64)> {
 /// The directory's first word. pdb has no such function; any stream that is asked for has the
 /// directory read, and too short a directory refused.
 pub fn count(file: &[u8]) -> Option<Answer> {
+    Some(match counted(file)? {
+        Ok(directory) => vec![Plain(COUNTED), Plain(directory.streams)],
+        Err(error) => refused(COUNT_REFUSED, &error),
+    })
+}
+
+/// A directory that holds its count.
+pub struct Directory {
+    pub streams: u64,
+    /// In bytes.
+    pub size: u64,
+}
+
+pub fn counted(file: &[u8]) -> Option<Result<Directory>> {
     let (got, seen) = get(file, 0, Some(0), Reading::OnlyTheTable);
     if seen.over {
         return None;
     }
+    let size = seen.directory_size as u64;
     Some(match (seen.directory, got) {
-        (Some(word), _) if word.len() == 4 => vec![Plain(COUNTED), Plain(number(&word))],
-        (_, Err(error)) => refused(COUNT_REFUSED, &error),
+        (Some(word), _) if word.len() == 4 => Ok(Directory {
+            streams: number(&word),
+            size,
+        }),
+        (_, Err(error)) => Err(error),
         (_, Ok(_)) => crate::stop("pdb finds a stream in a directory that has no count"),
     })
 }
@@ -82,8 +100,9 @@ fn untouched_size(i: usize) -> u64 {
     8_000_000_000_000_000_000 + i as u64
 }
 
-fn untouched_byte(i: usize) -> u8 {
-    (i % 251) as u8
+/// So many bytes of a store before it is lent.
+pub fn untouched(room: usize) -> Vec<u8> {
+    (0..room).map(|i| (i % 251) as u8).collect()
 }
 
 /// A stream's slices, cut to the limit.
@@ -124,7 +143,7 @@ pub fn extract(file: &[u8], stream: u32, limit: Option<u64>, room: usize) -> Opt
     if seen.over {
         return None;
     }
-    let mut store: Vec<u8> = (0..room).map(untouched_byte).collect();
+    let mut store = untouched(room);
     let mut answer = match got {
         Err(error) => refused(EXTRACT_REFUSED, &error),
         Ok(stream) if stream.len() > room => no_room(EXTRACT_REFUSED, stream.len()),
@@ -143,6 +162,12 @@ fn bytes(limit: Option<u64>) -> Option<usize> {
 }
 
 fn refused(case: u64, error: &Error) -> Answer {
+    let (number, value) = refusal(error);
+    vec![Plain(case), Plain(number), Plain(value)]
+}
+
+/// The number of a refusal, and its value.
+pub fn refusal(error: &Error) -> (u64, u64) {
     let (number, value) = match error {
         Error::UnrecognizedFileFormat => (UNRECOGNIZED_FILE_FORMAT, 0),
         Error::UnimplementedFeature(_) => (UNIMPLEMENTED_FEATURE, 0),
@@ -156,7 +181,7 @@ fn refused(case: u64, error: &Error) -> Answer {
             other
         )),
     };
-    vec![Plain(case), Plain(number), Plain(u64::from(value))]
+    (number, u64::from(value))
 }
 
 /// The rules' own refusal, which pdb lacks.

@@ -1,18 +1,19 @@
 //! The source that pdb reads a file from. It answers as pdb's own source over a `Cursor` does, by
 //! handing each request to that, and it keeps what was requested.
 
-use std::cell::RefCell;
+use std::cell::{Ref, RefCell};
 use std::io::{self, Cursor};
 use std::rc::Rc;
 
 use crate::common::Result;
-use crate::msf::{open_msf, Stream};
+use crate::msf::{open_msf, Msf, Stream};
 use crate::source::{Source, SourceSlice, SourceView};
 
 /// A larger view than this one is not made.
 const LARGEST_VIEW: usize = 1 << 30;
 
-// pdb asks for the header block, the location list, the directory and the stream, in this order.
+// pdb asks for the header block, the location list, the directory and the stream, in this order. Once
+// it has the directory it keeps it, so each view after that is a stream's.
 const DIRECTORY: usize = 3;
 const STREAM: usize = 4;
 
@@ -24,7 +25,9 @@ pub struct Seen {
     pub over: bool,
     /// The directory's first word, or as much of it as there is, once the directory was read.
     pub directory: Option<Vec<u8>>,
-    /// The slices of the stream, once they were asked for.
+    /// How many bytes the directory has, once it was read.
+    pub directory_size: usize,
+    /// The slices of the last stream that was asked for.
     pub slices: Vec<SourceSlice>,
 }
 
@@ -36,10 +39,36 @@ pub enum Reading {
 }
 
 #[derive(Debug)]
-struct Watched<'s> {
+pub struct Watched<'s> {
     file: Cursor<&'s [u8]>,
     reading: Reading,
     seen: Rc<RefCell<Seen>>,
+}
+
+/// A file as pdb opened it, and what it asks for.
+pub struct Open<'s> {
+    msf: Box<dyn Msf<'s, Watched<'s>> + 's>,
+    seen: Rc<RefCell<Seen>>,
+}
+
+pub fn open(file: &[u8], reading: Reading) -> Result<Open<'_>> {
+    let seen = Rc::new(RefCell::new(Seen::default()));
+    let msf = open_msf(Watched {
+        file: Cursor::new(file),
+        reading,
+        seen: Rc::clone(&seen),
+    })?;
+    Ok(Open { msf, seen })
+}
+
+impl<'s> Open<'s> {
+    pub fn get(&mut self, stream: u32, limit: Option<usize>) -> Result<Stream<'s>> {
+        self.msf.get(stream, limit)
+    }
+
+    pub fn seen(&self) -> Ref<'_, Seen> {
+        self.seen.borrow()
+    }
 }
 
 /// pdb's `get` of a stream, over a file that is opened afresh, and what it asked for.
@@ -49,14 +78,10 @@ pub fn get(
     limit: Option<usize>,
     reading: Reading,
 ) -> (Result<Stream<'_>>, Seen) {
-    let seen = Rc::new(RefCell::new(Seen::default()));
-    let source = Watched {
-        file: Cursor::new(file),
-        reading,
-        seen: Rc::clone(&seen),
-    };
-    let got = open_msf(source).and_then(|mut msf| msf.get(stream, limit));
-    (got, seen.take())
+    match open(file, reading) {
+        Err(error) => (Err(error), Seen::default()),
+        Ok(mut open) => (open.get(stream, limit), open.seen.take()),
+    }
 }
 
 impl<'s> Source<'s> for Watched<'s> {
@@ -71,7 +96,7 @@ impl<'s> Source<'s> for Watched<'s> {
             seen.over = true;
             return Err(io::Error::new(io::ErrorKind::Other, "over the limit"));
         }
-        if seen.views == STREAM {
+        if seen.views >= STREAM {
             seen.slices = slices.to_vec();
             if self.reading == Reading::OnlyTheTable {
                 return Ok(Box::new(Unread(vec![0; size])));
@@ -81,6 +106,7 @@ impl<'s> Source<'s> for Watched<'s> {
         if seen.views == DIRECTORY {
             let bytes = view.as_slice();
             seen.directory = Some(bytes[..bytes.len().min(4)].to_vec());
+            seen.directory_size = bytes.len();
         }
         Ok(view)
     }
