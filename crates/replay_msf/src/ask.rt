@@ -1,6 +1,8 @@
-// One question to the library, and the digest of what it answers: opening, counting, mapping and extracting, those that
-// are asked for. Each answer begins with the number of its case. After a mapping come both stores, after an extraction
-// the output, so that an entry that was written and should not have been shows.
+// One question to the library, and the digest of what it answers: opening, counting, mapping, extracting and listing,
+// those that are asked for. Each answer begins with the number of its case. After a mapping come both stores, after an
+// extraction the output, so that an entry that was written and should not have been shows.
+use crate::lines::list_in_room;
+use listing::Place;
 use msf::Counted;
 use msf::Extracted;
 use msf::Limit;
@@ -36,11 +38,15 @@ pub struct Question {
     pub count: bool,
     pub map: bool,
     pub extract: bool,
+    pub list: bool,
     pub stream: StreamNumber,
     pub limit: Limit,
     pub offsets: usize,
     pub sizes: usize,
+    // Of the output, and of the store for lines.
     pub bytes: usize,
+    // Where the listing begins.
+    pub from: Place,
 }
 
 pub fn answer(
@@ -54,7 +60,8 @@ pub fn answer(
     let opened = open(d, q, file);
     let counted = count(opened, q, file);
     let mapped = map_in_rooms(counted, q, file, offsets, sizes);
-    extract_in_room(mapped, q, file, bytes)
+    let extracted = extract_in_room(mapped, q, file, bytes);
+    list_in_room(extracted, q, file, bytes)
 }
 
 fn open(d: Digest, q: Question, file: &[u8]) -> Digest {
@@ -143,7 +150,7 @@ fn clear_entries(store: &mut [u64], from: u64) {
     }
 }
 
-fn clear_bytes(store: &mut [u8]) {
+pub fn clear_bytes(store: &mut [u8]) {
     for i in 0..store.len() {
         store[i] = (i % 251) as u8;
     }
@@ -157,7 +164,7 @@ fn entries(d: Digest, store: &[u64]) -> Digest {
     digest
 }
 
-fn all_bytes(d: Digest, store: &[u8]) -> Digest {
+pub fn all_bytes(d: Digest, store: &[u8]) -> Digest {
     let mut digest = d;
     for i in 0..store.len() {
         digest = digest.byte(store[i]);

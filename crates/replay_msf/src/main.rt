@@ -2,10 +2,11 @@
 // copies of them with the digests of what the Rust answers. Writes how many files were asked about and how many records
 // differ.
 //
-// ask.rt: one question to the library. edits.rt: a file made of a base file and runs of bytes. record.rt: a record's
-// header. This file: the run.
+// ask.rt: one question to the library. lines.rt: the listing, where that is asked for. edits.rt: a file made of a base
+// file and runs of bytes. record.rt: a record's header. This file: the run.
 mod ask;
 mod edits;
+mod lines;
 mod record;
 
 use ask::Question;

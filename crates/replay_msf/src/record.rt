@@ -1,5 +1,6 @@
 // The header of a record: 48 bytes, its numbers little-endian (`tests/differential/README.md` has the format).
 use crate::ask::Question;
+use listing::Place;
 use msf::Limit;
 use msf::StreamNumber;
 use replay::Digest;
@@ -29,7 +30,7 @@ pub struct Header {
     pub question: Question,
     // What the Rust answers.
     pub digest: Digest,
-    // Each byte that says yes or no is 0 or 1, and those that say nothing are 0.
+    // Each byte that says yes or no is 0 or 1, that of a place is one of its three, and those that say nothing are 0.
     pub well_formed: bool,
 }
 
@@ -47,21 +48,32 @@ pub fn parse(h: &[u8; 48]) -> Header {
             a: word(h[40], h[41], h[42], h[43]),
             b: word(h[44], h[45], h[46], h[47]),
         },
-        well_formed: h[4] < 2 && h[5] < 16 && h[6] < 2 && h[7] < 2 && h[22] == 0 && h[23] == 0,
+        well_formed: h[4] < 2 && h[5] < 32 && h[6] < 2 && h[7] < 2 && h[22] < 3 && h[23] == 0,
     }
 }
 
 fn parse_question(h: &[u8; 48]) -> Question {
+    let stream = StreamNumber(narrow(word(h[28], h[29], h[30], h[31])));
     Question {
         open: h[5] % 2 == 1,
         count: h[5] / 2 % 2 == 1,
         map: h[5] / 4 % 2 == 1,
         extract: h[5] / 8 % 2 == 1,
-        stream: StreamNumber(narrow(word(h[28], h[29], h[30], h[31]))),
+        list: h[5] / 16 % 2 == 1,
+        stream,
         limit: parse_limit(h),
         offsets: half(h[18], h[19]),
         sizes: half(h[20], h[21]),
         bytes: word(h[24], h[25], h[26], h[27]) as usize,
+        from: parse_place(h[22], stream),
+    }
+}
+
+fn parse_place(place: u8, stream: StreamNumber) -> Place {
+    match place {
+        0 => Place::Head,
+        1 => Place::Stream(stream),
+        _ => Place::End,
     }
 }
 

@@ -11,6 +11,8 @@
 //!
 //!     oracle isolation-msf SEED COUNT  COUNT pairs of containers that agree on what a stream's
 //!                                      answers depend on, of which pdb must answer the same
+//!     oracle file-msf NAME             a file that the tests of the listing program use
+//!     oracle listing-msf               reads a file, and prints the listing that pdb's answers make
 
 use std::io::{self, BufWriter, Read, Write};
 
@@ -46,7 +48,8 @@ mod random;
 mod records;
 
 const USAGE: &str = "usage: oracle record | live SEED COUNT | show N | alter N, \
-                     or the same with -msf or -buffer after the first word, or isolation-msf SEED COUNT";
+                     or the same with -msf or -buffer after the first word, \
+                     or isolation-msf SEED COUNT | file-msf NAME | listing-msf";
 
 fn main() {
     let words: Vec<String> = std::env::args().skip(1).collect();
@@ -76,6 +79,8 @@ fn answer(words: &[&str], out: &mut impl Write) -> io::Result<()> {
         ["isolation-msf", seed, count] => {
             container::write_pairs(number(seed), number(count), out)?
         }
+        ["file-msf", name] => out.write_all(&container::named(name))?,
+        ["listing-msf"] => out.write_all(container::listed(&read()).as_bytes())?,
         ["record-buffer"] => buffer::write(buffer::fixed(), out)?,
         ["live-buffer", seed, count] => {
             buffer::write(buffer::live(number(seed), number(count)), out)?

@@ -2,7 +2,8 @@
 
 use super::answers;
 use super::list::{Record, MOST_BYTES, MOST_ENTRIES};
-use super::question::{Question, Rooms, Run, Sweep, COUNT, EXTRACT, MAP, OPEN};
+use super::listing::listing;
+use super::question::{Question, Rooms, Run, Start, Sweep, COUNT, EXTRACT, LIST, MAP, OPEN};
 
 /// Stores that take what small streams answer.
 const SMALL_ROOMS: Rooms = Rooms {
@@ -35,6 +36,7 @@ impl About {
             stream: 0,
             limit: None,
             rooms: SMALL_ROOMS,
+            from: Start::Head,
         }
     }
 
@@ -114,6 +116,30 @@ impl About {
             ],
             None => vec![rooms(0, 0, 0), rooms(2, 1, 5)],
         }
+    }
+
+    /// The listing alone, from a place on, in a room.
+    pub fn ask_listing(&mut self, question: Question, from: Start, room: usize) {
+        self.ask(Question {
+            operations: LIST,
+            rooms: rooms(0, 0, room),
+            from,
+            ..question
+        });
+    }
+
+    /// The whole listing in rooms around what it needs.
+    pub fn ask_listing_around(&mut self, question: Question) {
+        let needed = self.listed(&question).unwrap_or(0);
+        for &room in &[needed, needed.saturating_sub(1), needed + 20, 0] {
+            self.ask_listing(question.clone(), Start::Head, room);
+        }
+    }
+
+    /// How many bytes the whole listing has, where it can be had.
+    pub fn listed(&self, question: &Question) -> Option<usize> {
+        let file = question.files(&self.base).pop()?;
+        Some(listing(&file)?.text().len())
     }
 
     /// The slices and bytes of the mapping, where there is one.

@@ -90,7 +90,7 @@ pub fn swept(random: &mut Random) -> About {
         .chain(f.location_word(0)..f.location_word(1))
         .chain(directory..directory + 4 * f.directory().len());
     for at in places {
-        about.ask_swept(at, about.question(), &ALL_STREAMS);
+        about.ask_swept(at, about.question().and_listing(), &ALL_STREAMS);
     }
     about
 }
@@ -112,7 +112,10 @@ fn page_sizes(about: &mut About) {
     let powers = (0..32).map(|bits| 1u32 << bits);
     let sizes = powers.flat_map(|power| vec![power, power + 1, power - 1]);
     for size in sizes.chain(Some(0x180)) {
-        about.ask_streams(about.edited(&[word(PAGE_SIZE, size)]), &ALL_STREAMS);
+        about.ask_streams(
+            about.edited(&[word(PAGE_SIZE, size)]).and_listing(),
+            &ALL_STREAMS,
+        );
     }
 }
 
@@ -126,7 +129,7 @@ fn page_numbers(about: &mut About) {
         }
         for &used in &[0, 1, 2, 20, 21, 0xffff_ffff] {
             let edits = [word(place, 24), word(PAGES_USED, used)];
-            about.ask_streams(about.edited(&edits), &ALL_STREAMS);
+            about.ask_streams(about.edited(&edits).and_listing(), &ALL_STREAMS);
         }
     }
 }
@@ -149,7 +152,10 @@ fn later_pages(about: &mut About) {
 fn directory_sizes(about: &mut About) {
     let larger = vec![255, 256, 257, 512, 513, 0x4000, 0x4001, 0xffff_ffff];
     for size in (0..=40).chain(larger) {
-        about.ask_streams(about.edited(&[word(DIRECTORY_SIZE, size)]), &ALL_STREAMS);
+        about.ask_streams(
+            about.edited(&[word(DIRECTORY_SIZE, size)]).and_listing(),
+            &ALL_STREAMS,
+        );
     }
 }
 
@@ -159,7 +165,7 @@ fn counts_and_sizes(about: &mut About) {
     for &count in [3, 4, 5, 7, 8, 9, 10].iter().chain(&BOUNDARIES) {
         let streams = [0, 1, 2, 3, count.wrapping_sub(1), count];
         let edits = [word(f.directory_word(COUNT_WORD), count)];
-        about.ask_streams(about.edited(&edits), &streams);
+        about.ask_streams(about.edited(&edits).and_listing(), &streams);
     }
     for i in SIZE_WORDS {
         for &size in [299, 512, 513, 768, 769, 1280, 1281]
@@ -167,7 +173,7 @@ fn counts_and_sizes(about: &mut About) {
             .chain(&BOUNDARIES)
         {
             let edits = [word(f.directory_word(i), size)];
-            about.ask_streams(about.edited(&edits), &ALL_STREAMS);
+            about.ask_streams(about.edited(&edits).and_listing(), &ALL_STREAMS);
         }
     }
 }
@@ -180,15 +186,15 @@ fn empty_streams(about: &mut About) {
         let stream = i as u32 - 1;
         for size in vec![16, 20, 24, 28, 32, 35, 36, 37] {
             let edits = [word(at(i), 0), word(DIRECTORY_SIZE, size)];
-            about.ask_streams(about.edited(&edits), &[stream]);
+            about.ask_streams(about.edited(&edits).and_listing(), &[stream]);
         }
         for &count in [4, 5, 6, 7, 8, 9, 10].iter().chain(&BOUNDARIES) {
             let edits = [word(at(i), 0), word(at(COUNT_WORD), count)];
-            about.ask_streams(about.edited(&edits), &[stream]);
+            about.ask_streams(about.edited(&edits).and_listing(), &[stream]);
         }
         for &size in [300, 1024, 1280, 1281, 1536].iter().chain(&BOUNDARIES) {
             let edits = [word(at(i), 0), word(at(1), size)];
-            about.ask_streams(about.edited(&edits), &[stream]);
+            about.ask_streams(about.edited(&edits).and_listing(), &[stream]);
         }
     }
 }

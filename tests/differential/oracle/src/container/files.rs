@@ -12,6 +12,8 @@ pub const PAGES_USED: usize = 40;
 pub const DIRECTORY_SIZE: usize = 44;
 pub const ENTRIES: usize = 52;
 pub const HEADER_BLOCK: usize = 4096;
+/// How many location entries the header block holds.
+pub const ENTRIES_HELD: usize = (HEADER_BLOCK - ENTRIES) / 4;
 
 /// The size of a stream that is not there.
 pub const ABSENT: u32 = 0xffff_ffff;
@@ -146,7 +148,7 @@ pub fn word(at: usize, word: u32) -> Run {
 }
 
 /// Puts a word where the file has room for it.
-fn put_word(file: &mut [u8], at: usize, word: u32) {
+pub fn put_word(file: &mut [u8], at: usize, word: u32) {
     if at + 4 <= file.len() {
         file[at..at + 4].copy_from_slice(&word.to_le_bytes());
     }

@@ -3,13 +3,13 @@
 
 use super::ask::About;
 use super::list::Record;
-use super::{file_f, live, rules, shapes};
+use super::{file_f, listings, live, rules, shapes};
 use crate::random::Random;
 
 const FIXED_SEED: u64 = 0x6d73_6600;
 const FIXED_CONTAINERS: u64 = 120;
 
-const SUBJECTS: [fn(&mut Random) -> About; 19] = [
+const SUBJECTS: [fn(&mut Random) -> About; 26] = [
     rules::rows,
     file_f::whole,
     file_f::swept,
@@ -29,6 +29,13 @@ const SUBJECTS: [fn(&mut Random) -> About; 19] = [
     shapes::page_of_65536,
     shapes::largest_page,
     shapes::over_and_over,
+    listings::whole_f,
+    listings::refused,
+    listings::longest,
+    listings::most_streams,
+    listings::too_many_streams,
+    listings::long_lines,
+    listings::hostile,
 ];
 
 pub fn fixed() -> impl Iterator<Item = Record> {

@@ -4,7 +4,7 @@
 use std::io::{self, Write};
 
 use super::asked::{asked, Asked};
-use super::question::{Question, Rooms, Run, Sweep};
+use super::question::{Question, Rooms, Run, Start, Sweep};
 use crate::digest::Digest;
 use crate::records::{number, Layout};
 
@@ -84,7 +84,7 @@ fn question_record(asked: &Asked) -> Vec<u8> {
     record.extend_from_slice(&[sweep.first, sweep.last]);
     put(&mut record, q.rooms.offsets as u64, 2);
     put(&mut record, q.rooms.sizes as u64, 2);
-    put(&mut record, 0, 2);
+    record.extend_from_slice(&[from_byte(q.from), 0]);
     put(&mut record, q.rooms.bytes as u64, 4);
     put(&mut record, u64::from(q.stream), 4);
     put(&mut record, q.limit.unwrap_or(0), 8);
@@ -92,6 +92,22 @@ fn question_record(asked: &Asked) -> Vec<u8> {
     put(&mut record, u64::from(asked.digest.b), 4);
     record.extend_from_slice(&body);
     record
+}
+
+fn from_byte(from: Start) -> u8 {
+    match from {
+        Start::Head => 0,
+        Start::Stream => 1,
+        Start::End => 2,
+    }
+}
+
+fn parse_from(byte: u8) -> Start {
+    match byte {
+        0 => Start::Head,
+        1 => Start::Stream,
+        _ => Start::End,
+    }
 }
 
 /// A number, little-endian, in so many bytes.
@@ -183,6 +199,7 @@ fn parse_question(record: &[u8]) -> Question {
             sizes: field(record, 20, 2),
             bytes: field(record, 24, 4),
         },
+        from: parse_from(record[22]),
     }
 }
 

@@ -4,9 +4,10 @@ use super::ask::{rooms, About};
 use super::damage;
 use super::files::{need, stream, Container, Stream, ABSENT, HEADER_BLOCK};
 use super::list::{Record, LONGEST_FILE};
-use super::question::Question;
+use super::question::{Question, Start};
 use crate::random::Random;
 
+/// Half of them about the container, half about damaged copies of it.
 const QUESTIONS: usize = 8;
 
 /// Questions about `count` containers, made one container at a time, so that a list may be long.
@@ -44,10 +45,34 @@ fn about(random: &mut Random, page_size: usize, sizes: Vec<u32>) -> Vec<Record> 
     let container = container(random, page_size, sizes);
     let mut about = About::new(container.file(random));
     for i in 0..QUESTIONS {
-        let question = question(random, &container, &about, i >= QUESTIONS / 2);
+        let damaged = i >= QUESTIONS / 2;
+        let mut question = question(random, &container, &about, damaged);
+        // The listing of the sound file once, and of each damaged one.
+        if i == 0 || damaged {
+            question = and_listing(random, &about, question);
+        }
         about.ask(question);
     }
     about.records
+}
+
+/// The listing too, most often from the head. Its store is that of the stream's bytes, which mostly
+/// takes it whole; in one question of four there is about as much room as it needs.
+fn and_listing(random: &mut Random, about: &About, question: Question) -> Question {
+    let mut question = question.and_listing();
+    question.from = match random.below(16) {
+        0 => Start::End,
+        1..=3 => Start::Stream,
+        _ => Start::Head,
+    };
+    if random.one_in(4) {
+        let needed = about.listed(&question).unwrap_or(0);
+        question.rooms.bytes = match random.below(4) {
+            0 => random.below(needed + 1),
+            _ => (needed + random.below(4)).saturating_sub(2),
+        };
+    }
+    question
 }
 
 /// The sizes of at most so many streams.

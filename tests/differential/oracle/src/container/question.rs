@@ -1,6 +1,7 @@
 //! A question about a container: a base file's edited copy, and what is asked of it.
 
 use super::answers;
+use super::listing::{listing, Place};
 use crate::digest::Word;
 
 // The operations that a question asks for, as bits.
@@ -8,6 +9,7 @@ pub const OPEN: u8 = 1;
 pub const COUNT: u8 = 2;
 pub const MAP: u8 = 4;
 pub const EXTRACT: u8 = 8;
+pub const LIST: u8 = 16;
 
 /// Bytes at a place of a file.
 #[derive(Clone, Debug)]
@@ -16,12 +18,21 @@ pub struct Run {
     pub bytes: Vec<u8>,
 }
 
-/// How many entries the stores have.
+/// How many entries the stores have. That of bytes is lent for a stream, and for a listing.
 #[derive(Clone, Copy, Debug)]
 pub struct Rooms {
     pub offsets: usize,
     pub sizes: usize,
     pub bytes: usize,
+}
+
+/// Where a listing begins.
+#[derive(Clone, Copy, Debug, Eq, PartialEq)]
+pub enum Start {
+    Head,
+    /// The line of the question's stream.
+    Stream,
+    End,
 }
 
 /// One byte of the file takes each value from `first` to `last`, and the question is asked at each.
@@ -42,9 +53,18 @@ pub struct Question {
     pub stream: u32,
     pub limit: Option<u64>,
     pub rooms: Rooms,
+    pub from: Start,
 }
 
 impl Question {
+    /// The listing too.
+    pub fn and_listing(self) -> Self {
+        Question {
+            operations: self.operations | LIST,
+            ..self
+        }
+    }
+
     /// The files that the question asks of.
     pub fn files(&self, base: &[u8]) -> Vec<Vec<u8>> {
         let mut file = base.to_vec();
@@ -75,12 +95,21 @@ impl Question {
             OPEN => Some(answers::open(file)),
             COUNT => answers::count(file),
             MAP => answers::map(file, self.stream, self.limit, (offsets, sizes)),
-            _ => answers::extract(file, self.stream, self.limit, bytes),
+            EXTRACT => answers::extract(file, self.stream, self.limit, bytes),
+            _ => listing(file).map(|listing| listing.answer(self.place(), bytes)),
         };
-        [OPEN, COUNT, MAP, EXTRACT]
+        [OPEN, COUNT, MAP, EXTRACT, LIST]
             .iter()
             .filter(|&&operation| self.operations & operation != 0)
             .map(|&operation| (operation, ask(operation)))
             .collect()
+    }
+
+    fn place(&self) -> Place {
+        match self.from {
+            Start::Head => Place::Head,
+            Start::Stream => Place::Stream(self.stream),
+            Start::End => Place::End,
+        }
     }
 }

@@ -2,11 +2,11 @@
 //!
 //! An input is the project's file F but for what it names. As in the table, a place in F's location
 //! list or directory is the number of its byte. R11, R12 and R46 to R59 are about annotations, R60
-//! about reads (`buffer/rules.rs`).
+//! about reads (`buffer/rules.rs`); R61 to R70 are about the listing.
 
 use super::ask::About;
 use super::files::{Container, DIRECTORY_SIZE, ENTRIES, PAGES_USED, PAGE_SIZE, SMALL_MAGIC};
-use super::question::{Question, Rooms, Run, COUNT, EXTRACT, MAP, OPEN};
+use super::question::{Question, Rooms, Run, Start, COUNT, EXTRACT, LIST, MAP, OPEN};
 use crate::random::Random;
 
 const FREE_PAGE_MAP: usize = 36;
@@ -31,6 +31,8 @@ pub fn rows(random: &mut Random) -> About {
         streams(),
         mapping_and_extraction(),
         slices(),
+        listing_refused(),
+        listing(),
     ];
     for question in rows.concat() {
         about.ask(question);
@@ -281,6 +283,57 @@ fn slices() -> Vec<Question> {
     ]
 }
 
+fn listing_refused() -> Vec<Question> {
+    let no_magic = || f().bytes(0, &[0]);
+    vec![
+        // R61
+        f().long(65_536).list(),
+        f().long(65_537).list(),
+        no_magic().long(65_536).list(),
+        no_magic().long(65_537).list(),
+        // R62
+        f().put(PAGE_SIZE, &[0x180]).list(),
+        f().put(768, &[0]).list(),
+        f().put(768, &[24]).put(DIRECTORY_SIZE, &[15]).list(),
+        f().put(DIRECTORY_SIZE, &[3]).list(),
+        // R63
+        f().put(DIRECTORY_SIZE, &[15]).list(),
+        f().put(DIRECTORY_SIZE, &[16]).list(),
+        f().put(1024, &[0x3fff_ffff]).list(),
+        // R64
+        h(4096, 16_388).list().room(65_536),
+        h(4097, 16_392).list(),
+        h(4097, 16_391).list(),
+        // R65
+        f().put(PAGE_SIZE, &[0x180]).list().room(14),
+        f().put(PAGE_SIZE, &[0x180]).list().room(13),
+    ]
+}
+
+fn listing() -> Vec<Question> {
+    vec![
+        // R66
+        f().list().room(32),
+        f().list().room(31),
+        // R67
+        f().put(1036, &[512]).list(),
+        f().put(1036, &[513]).list(),
+        f().put(1056, &[24]).list(),
+        // R68
+        f().list(),
+        f().put(1032, &[0]).list(),
+        f().put(1032, &[0xffff_fffe]).list(),
+        // R69
+        f().put(1056, &[25]).list(),
+        f().put(1040, &[0]).list(),
+        f().put(DIRECTORY_SIZE, &[35]).list(),
+        // R70
+        f().put(1036, &[9]).list(),
+        f().put(1036, &[10]).list(),
+        f().put(1040, &[0xffff_ffff]).list(),
+    ]
+}
+
 /// F, of which nothing is asked yet.
 fn f() -> Question {
     Question {
@@ -291,6 +344,7 @@ fn f() -> Question {
         stream: 0,
         limit: None,
         rooms: ROOMS,
+        from: Start::Head,
     }
 }
 
@@ -301,6 +355,18 @@ fn g() -> Question {
 
 fn g_of_4096() -> Question {
     g().put(PAGE_SIZE, &[4096])
+}
+
+/// The table's H: all sizes of up to 4,097 streams are 0, in page 4 and in page 5 over and over.
+fn h(count: u32, directory_size: u32) -> Question {
+    f().put(DIRECTORY_SIZE, &[directory_size])
+        .put(ENTRIES, &[3, 8])
+        .put(768, &[4])
+        .put(772, &[5; 63])
+        .put(2048, &[5])
+        .put(1024, &[count])
+        .put(1028, &[0; 63])
+        .put(1280, &[0; 64])
 }
 
 /// The last page number of stream 60 is the first word of the directory's second page. It is 5 in
@@ -351,6 +417,11 @@ impl Question {
         Question { length, ..self }
     }
 
+    /// Longer by zeros.
+    fn long(self, length: usize) -> Self {
+        Question { length, ..self }
+    }
+
     fn open(self) -> Self {
         Question {
             operations: OPEN,
@@ -385,6 +456,13 @@ impl Question {
         Question {
             operations: OPEN | COUNT | MAP | EXTRACT,
             stream,
+            ..self
+        }
+    }
+
+    fn list(self) -> Self {
+        Question {
+            operations: LIST,
             ..self
         }
     }

@@ -3,10 +3,10 @@
 use super::ask::About;
 use super::file_f::BOUNDARIES;
 use super::files::{
-    stream, word, Container, Stream, ABSENT, DIRECTORY_SIZE, ENTRIES, HEADER_BLOCK, PAGES_USED,
-    PAGE_SIZE,
+    stream, word, Container, Stream, ABSENT, DIRECTORY_SIZE, ENTRIES, ENTRIES_HELD, HEADER_BLOCK,
+    PAGES_USED, PAGE_SIZE,
 };
-use super::question::{Question, Run, COUNT, EXTRACT, MAP, OPEN};
+use super::question::{Question, Run, Start, COUNT, EXTRACT, LIST, MAP, OPEN};
 use crate::random::Random;
 
 const ALL_STREAMS: [u32; 4] = [0, 1, 2, 3];
@@ -28,10 +28,10 @@ pub fn truncated(random: &mut Random) -> About {
     let near = |end: usize| vec![end - 1, end, end + 1];
     let ends = (16..=25).map(|page| page * 0x100).flat_map(near);
     for length in ends.chain((22 * 0x100)..(22 * 0x100 + 8)) {
-        about.ask_streams(about.cut(length), &ALL_STREAMS);
+        about.ask_streams(about.cut(length).and_listing(), &ALL_STREAMS);
     }
     for length in (23 * 0x100)..(23 * 0x100 + 40) {
-        about.ask_streams(about.cut(length), &[2, 0]);
+        about.ask_streams(about.cut(length).and_listing(), &[2, 0]);
     }
     // Streams 0 and 2 end before their pages do.
     for length in near(20 * 0x100 + 300).into_iter().chain(4096..4104) {
@@ -83,12 +83,12 @@ pub fn spread(random: &mut Random) -> About {
     let words = container.directory().len();
     for i in 0..words {
         let edits = [word(container.directory_word(i), random.pick(&BOUNDARIES))];
-        about.ask_streams(about.edited(&edits), &[0, 20, 39]);
+        about.ask_streams(about.edited(&edits).and_listing(), &[0, 20, 39]);
     }
     // A directory that ends at every word, so that one of its parts is cut.
     for i in 0..words {
         let edits = [word(DIRECTORY_SIZE, 4 * i as u32)];
-        about.ask_streams(about.edited(&edits), &[0, 39]);
+        about.ask_streams(about.edited(&edits).and_listing(), &[0, 39]);
     }
     about
 }
@@ -104,10 +104,10 @@ pub fn large_before(random: &mut Random) -> About {
         ..Container::f()
     };
     let mut about = About::new(container.file(random));
-    about.ask_streams(about.question(), &[0, 1, 63, 64, 65, 66]);
+    about.ask_streams(about.question().and_listing(), &[0, 1, 63, 64, 65, 66]);
     for i in 1..=64 {
         let edits = [word(container.directory_word(i), ABSENT)];
-        about.ask_streams(about.edited(&edits), &[64, 65]);
+        about.ask_streams(about.edited(&edits).and_listing(), &[64, 65]);
     }
     about
 }
@@ -187,8 +187,7 @@ pub fn aliased(random: &mut Random) -> About {
     about
 }
 
-/// How many location entries the header block holds, and the largest directory that they can name.
-const ENTRIES_HELD: usize = (HEADER_BLOCK - ENTRIES) / 4;
+/// The largest directory that the location entries can name.
 const LARGEST_DIRECTORY: u32 = (ENTRIES_HELD * 64 * 256) as u32;
 
 /// Every word from the first location entry to the end of the header block is 3. Page 3 is in that
@@ -289,6 +288,18 @@ pub fn location_pages(random: &mut Random) -> About {
         161 * 256 - 1,
     ] {
         about.ask_streams(about.cut(length), &[35]);
+    }
+    // Of a listing too many streams are refused with 11, but first with 7 where their sizes are cut.
+    about.ask_listing_around(about.question());
+    for &count in &[4096, 4097, 5000] {
+        let sizes = 4 + 4 * count;
+        for &size in &[sizes - 1, sizes, sizes + 1] {
+            let edits = [
+                word(DIRECTORY_SIZE, size),
+                word(container.directory_word(0), count),
+            ];
+            about.ask_listing(about.edited(&edits), Start::Head, 65_536);
+        }
     }
     about
 }
@@ -467,7 +478,7 @@ pub fn over_and_over(random: &mut Random) -> About {
             for &used in &[5, 0xffff_ffff] {
                 about.ask_with_room(Question {
                     limit: Some(0x3001),
-                    operations: COUNT | MAP | EXTRACT,
+                    operations: COUNT | MAP | EXTRACT | LIST,
                     ..about.edited(&edits(directory, used, bytes))
                 });
             }

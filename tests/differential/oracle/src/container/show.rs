@@ -3,7 +3,8 @@
 use std::fmt::Write;
 
 use super::list;
-use super::question::{Question, COUNT, EXTRACT, MAP, OPEN};
+use super::listing::whole;
+use super::question::{Question, COUNT, EXTRACT, LIST, MAP, OPEN};
 use crate::digest::{text, Digest};
 
 pub fn record(list: &[u8], n: usize) -> String {
@@ -32,8 +33,8 @@ fn show(
     }
     writeln!(
         out,
-        "stream {}, limit {:?}, {:?}",
-        question.stream, question.limit, question.rooms
+        "stream {}, limit {:?}, {:?}, a listing from {:?} on",
+        question.stream, question.limit, question.rooms, question.from
     )?;
     let mut asked = Digest::default();
     for (i, file) in question.files(base).iter().enumerate() {
@@ -49,6 +50,9 @@ fn show(
             let words = answer.unwrap_or_default();
             asked.mix_all(&words);
             writeln!(out, "  {}: {}", name(operation), text(&words))?;
+            if operation == LIST {
+                writeln!(out, "  listing:\n{}", whole(file))?;
+            }
         }
     }
     writeln!(out, "recorded {:?}\nthe Rust {:?}", recorded, asked)
@@ -60,6 +64,7 @@ fn name(operation: u8) -> &'static str {
         COUNT => "count",
         MAP => "map",
         EXTRACT => "extract",
+        LIST => "list",
         _ => "unknown",
     }
 }

@@ -1,0 +1,208 @@
+//! The listing of a file, made of what pdb answers: its count, and each stream's mapping. The text,
+//! the parts and refusal 11 are the project's own rules, and written here from these alone.
+
+use super::answers::{counted, refusal, untouched, Answer, Directory, SHORT_DATA};
+use super::hostile;
+use super::source::{open, Reading};
+use crate::common::{Error, Result};
+use crate::digest::Word::{Byte, Plain};
+
+// The cases.
+const LISTED: u64 = 19;
+const LIST_REFUSED: u64 = 20;
+
+const OVER_LIMIT: u64 = 11;
+const MOST_BYTES: usize = 65_536;
+const MOST_STREAMS: u64 = 4096;
+
+/// Where a listing goes on.
+#[derive(Clone, Copy, Debug, Eq, PartialEq)]
+pub enum Place {
+    Head,
+    Stream(u32),
+    End,
+}
+
+pub enum Listing {
+    /// The head, and a line for each stream, each with its newline.
+    Lines(Vec<String>),
+    /// The file is not listed: the refusal's number and value.
+    Refused(u64, u64),
+}
+
+/// Whole lines, and where the listing goes on after them.
+struct Part {
+    bytes: Vec<u8>,
+    next: Place,
+}
+
+/// The listing of a file. Where pdb has no answer there is none either, but for the hostile files,
+/// whose listing is reckoned.
+pub fn listing(file: &[u8]) -> Option<Listing> {
+    by_pdb(file).or_else(|| hostile::listing(file))
+}
+
+/// The text of the listing of a file.
+pub fn whole(file: &[u8]) -> String {
+    match listing(file) {
+        Some(listing) => listing.text(),
+        None => crate::stop("pdb would make a view of over 1 GiB"),
+    }
+}
+
+/// The listing as pdb's answers make it.
+pub fn by_pdb(file: &[u8]) -> Option<Listing> {
+    if file.len() > MOST_BYTES {
+        return Some(Listing::Refused(OVER_LIMIT, MOST_BYTES as u64));
+    }
+    let directory = match counted(file)? {
+        Ok(directory) => directory,
+        Err(error) => {
+            let (number, value) = refusal(&error);
+            return Some(Listing::Refused(number, value));
+        }
+    };
+    match over(&directory) {
+        Some((number, value)) => Some(Listing::Refused(number, value)),
+        None => lines(file, directory.streams as u32).map(Listing::Lines),
+    }
+}
+
+/// The sizes reach past the directory, or there are too many.
+fn over(directory: &Directory) -> Option<(u64, u64)> {
+    if 4 + 4 * directory.streams > directory.size {
+        return Some((SHORT_DATA, 0));
+    }
+    Some((OVER_LIMIT, MOST_STREAMS)).filter(|_| directory.streams > MOST_STREAMS)
+}
+
+/// A listing is one question, so the file is opened once for all its streams.
+fn lines(file: &[u8], streams: u32) -> Option<Vec<String>> {
+    let mut open = match open(file, Reading::OnlyTheTable) {
+        Ok(open) => open,
+        Err(_) => crate::stop("pdb opens a file once and then not again"),
+    };
+    let mut lines = vec![head(streams)];
+    for k in 0..streams {
+        let got = open.get(k, None).map(|stream| stream.len());
+        let seen = open.seen();
+        if seen.over {
+            return None;
+        }
+        lines.push(line(k, got, seen.slices.len()));
+    }
+    Some(lines)
+}
+
+pub fn head(streams: u32) -> String {
+    format!("streams {}\n", streams)
+}
+
+/// A stream's line, of what mapping it answers: its length, and how many slices.
+fn line(k: u32, got: Result<usize>, slices: usize) -> String {
+    match got {
+        Ok(size) => size_line(k, size, slices),
+        Err(Error::StreamNotFound(_)) => size_line(k, 0, 0),
+        Err(error) => {
+            let (number, value) = refusal(&error);
+            format!("{} {}", k, refused_line(number, value))
+        }
+    }
+}
+
+pub fn size_line(k: u32, size: usize, slices: usize) -> String {
+    format!("{} {} {}\n", k, size, slices)
+}
+
+fn refused_line(number: u64, value: u64) -> String {
+    format!("refused {} {}\n", number, value)
+}
+
+impl Listing {
+    pub fn text(&self) -> String {
+        match self {
+            Listing::Lines(lines) => lines.concat(),
+            Listing::Refused(number, value) => refused_line(*number, *value),
+        }
+    }
+
+    /// What the project's operation answers, asked again and again from a place on, each time into a
+    /// store of so many bytes: up to the end, to a refusal, or to a part of no line. After each
+    /// answer the whole store; after a refusal what its line then comes to in the store.
+    pub fn answer(&self, from: Place, room: usize) -> Answer {
+        match self {
+            Listing::Lines(lines) => parts(lines, from, room)
+                .iter()
+                .flat_map(|part| part.answer(room))
+                .collect(),
+            Listing::Refused(number, value) => {
+                let line = refused_line(*number, *value).into_bytes();
+                let line = Some(line).filter(|line| line.len() <= room);
+                let line = line.unwrap_or_default();
+                let mut answer = vec![Plain(LIST_REFUSED), Plain(*number), Plain(*value)];
+                answer.extend(store(&[], room));
+                answer.push(Plain(line.len() as u64));
+                answer.extend(store(&line, room));
+                answer
+            }
+        }
+    }
+}
+
+/// The parts from a place on, the last of which reaches the end or has no line.
+fn parts(lines: &[String], from: Place, room: usize) -> Vec<Part> {
+    let mut parts = vec![part(lines, from, room)];
+    loop {
+        let last = &parts[parts.len() - 1];
+        if last.next == Place::End || last.bytes.is_empty() {
+            return parts;
+        }
+        let next = last.next;
+        parts.push(part(lines, next, room));
+    }
+}
+
+/// As many lines as fit.
+fn part(lines: &[String], from: Place, room: usize) -> Part {
+    let mut n = match from {
+        Place::Head => 0,
+        Place::Stream(k) => lines.len().min(1 + k as usize),
+        Place::End => lines.len(),
+    };
+    let mut bytes = Vec::new();
+    while n < lines.len() && bytes.len() + lines[n].len() <= room {
+        bytes.extend_from_slice(lines[n].as_bytes());
+        n += 1;
+    }
+    let next = match n {
+        n if n == lines.len() => Place::End,
+        0 => Place::Head,
+        n => Place::Stream(n as u32 - 1),
+    };
+    Part { bytes, next }
+}
+
+impl Part {
+    fn answer(&self, room: usize) -> Answer {
+        let (place, stream) = match self.next {
+            Place::Head => (0, 0),
+            Place::Stream(k) => (1, k),
+            Place::End => (2, 0),
+        };
+        let mut answer = vec![
+            Plain(LISTED),
+            Plain(self.bytes.len() as u64),
+            Plain(place),
+            Plain(u64::from(stream)),
+        ];
+        answer.extend(store(&self.bytes, room));
+        answer
+    }
+}
+
+/// A store of so many bytes that begins with what was written.
+fn store(written: &[u8], room: usize) -> Answer {
+    let mut store = untouched(room);
+    store[..written.len()].copy_from_slice(written);
+    store.into_iter().map(Byte).collect()
+}
