@@ -26,7 +26,7 @@ use Rattle.msf.specs.declared.to_bytes.Extracted.the-variants as extracted
 use Rattle.container.specs.Statements.{Told}
 
 -- ---- refusals
-abbrev refusal-back : paper.Refusal → Refusal
+abbrev pub refusal-back : paper.Refusal → Refusal
 refusal-back r =
     let n = r .number in
     let v = r .value in

@@ -19,7 +19,7 @@ module _ (n : ℕ) {place : Place} where
   pub line-end : place ≡ End → 1 + n ≡ lineOf n place
   line-end e = rw e
 
-line-most : (n : ℕ) (place : Place) → lineOf n place ≤ 1 + n
+pub line-most : (n : ℕ) (place : Place) → lineOf n place ≤ 1 + n
 line-most n Head = omega arith
 line-most n (Stream k) = omega arith
 line-most n End = omega arith

@@ -1,0 +1,24 @@
+-- The listing of file F, by computation.
+use mathlib.Core.Path.{refl}
+use lib.Count
+use Rattle.outcome.specs.Outcome.{_>>=_, _>>_, require}
+use Rattle.outcome.specs.Each.{each}
+use Rattle.parse_buffer.specs.Bytes.{word}
+use Rattle.paged.specs.PageSize.{sizeFits, need}
+use Rattle.paged.specs.Pages.{location, directoryPage, directoryWord}
+use Rattle.paged.specs.Checks.{pageFits}
+use Rattle.header.specs.Header.{standsAt, sized, headed, located}
+use Rattle.directory.specs.Directory.{reached, streamCount}
+use Rattle.stream.specs.Stream as stream
+use Rattle.stream.specs.Stream.{pagesOf, pagesBefore, listed, found}
+use Rattle.slices.specs.Slices.{lengthen, slicesOf, cut}
+use Rattle.msf.specs.Msf.{placed}
+use Rattle.msf.specs.Promises.{mapped}
+use Rattle.container.specs.FileF.{fileF, F}
+use Rattle.listing.specs.Text.{spelled, shownText}
+use Rattle.listing.specs.Listing.{listable, shownOf, lineAt, linesFrom, listing}
+use Rattle.listing_statements.specs.Cases.{Cases}
+
+pub cases : Cases
+unfolding F fileF _>>=_ _>>_ require each word sizeFits need location directoryPage directoryWord pageFits standsAt sized headed located reached streamCount pagesOf pagesBefore stream.sized listed found lengthen slicesOf cut placed mapped spelled shownText listable shownOf lineAt linesFrom listing Count.ones Count.onesIn
+cases = record { listing-of-F = refl }

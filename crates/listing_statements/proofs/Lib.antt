@@ -1,0 +1,4 @@
+pub mod Decimal
+pub mod InParts
+pub mod Statements
+pub mod Cases
