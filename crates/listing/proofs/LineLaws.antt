@@ -1,24 +1,22 @@
 -- What a line shows is the answer of mapping its stream afresh; the carried count is that of the streams before it.
 use mathlib.Core.Path.{_≡_, refl, sym, _∙_, ap}
 use mathlib.Core.List.{List, _++_}
-use Prim.Native.Nat.{ℕ, zero, suc, _+_, _-_, _*_, _/_, _^_, _≤_, _<_}
+use Prim.Native.Nat.{ℕ, zero, suc, _+_, _-_, _/_, _^_, _≤_, _<_}
 use native.Mathlib.Omega.{arith}
 use borrow.Author.Tests.{le-leb, lt-ltb, eq-eqb, ne-eqb}
 use lib.ListN.{length}
 use mir.Syntax.{w64}
 use mir.Val.{Fits}
 use Rattle.outcome.specs.Outcome.{ok, refused, _>>=_, _>>_, require}
-use Rattle.outcome.specs.Refusal as paper
 use Rattle.parse_buffer.specs.Bytes.{File}
 use Rattle.paged.specs.Refusal.{refusalIn}
 use Rattle.paged.specs.PageSize.{PageSize, need}
 use Rattle.paged.specs.Pages.{directoryWord}
 use Rattle.paged.specs.declared.refusal.Refusal.{Refusal}
-use Rattle.paged.specs.declared.refusal.Refusal.the-variants.{StreamNotFound}
 use Rattle.directory.proofs.DirectoryLaws.{reached-size}
 use Rattle.slices.specs.Slices.{slicesOf, cut}
 use Rattle.slices.specs.Inner.{streamPage}
-use Rattle.stream.specs.Stream.{absent, sized, pagesOf, pagesBefore, listed, found}
+use Rattle.stream.specs.Stream.{absent, sized, pagesOf, listed, found}
 use Rattle.stream.specs.Promises.{soughtIn, Before, Skipped, Finding}
 use Rattle.stream.proofs.StreamLaws.{before-more, before-fits}
 use Rattle.stream.proofs.FindLaws.{found-at, found-not-5}
@@ -31,7 +29,7 @@ use Rattle.listing.specs.Text.{Shown, mapping-refused, sizeText, refusal
 use Rattle.listing.specs.Listing.{shownOf, shown, lineAt}
 use Rattle.listing.specs.Inner.{Putting, Whole, shownIn, Up}
 use Rattle.listing.proofs.TextLaws.{puts-more}
-use Rattle.listing.proofs.WholeLaws.{whole-at, whole-size}
+use Rattle.listing.proofs.WholeLaws.{whole-at}
 use Rattle.listing.specs.declared.line.Shown as code
 use Rattle.listing.specs.declared.line.Line.{Line}
 use Rattle.listing.specs.declared.line.Line.the-variants as line

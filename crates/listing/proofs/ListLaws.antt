@@ -1,10 +1,9 @@
 -- Line after line: what stands in the buffer after some of them, and that no more fit when the loop stops.
 use mathlib.Core.Path.{_≡_, refl, sym, _∙_, ap}
 use mathlib.Core.Bool.{cond}
-use mathlib.Core.List.{List, [], _++_}
+use mathlib.Core.List.{List, _++_}
 use Prim.Native.Nat.{ℕ, zero, suc, _+_, _-_, _≤_, _<_}
 use native.Mathlib.Omega.{arith}
-use native.Mathlib.Numerals.{add-one}
 use native.Mathlib.Decide.{le-ind}
 use borrow.Author.Tests.{le-leb, lt-leb, leb-true}
 use lib.Dec.{leb}
@@ -19,7 +18,7 @@ use Rattle.io.specs.Counts.{Counts}
 use Rattle.listing.specs.Text.{refusalText}
 use Rattle.listing.specs.Listing.{listable, lineAt, linesFrom, lineOf, placeOf, most}
 use Rattle.listing.specs.Promises.{listRefusalIn, listedIn, linesIn, fitting, textOf, partIn, partOf, Lists, Refuses}
-use Rattle.listing.specs.Inner.{Putting, judging, judgedIn, Judges, Whole, Writes}
+use Rattle.listing.specs.Inner.{Putting, judgedIn, Judges, Writes}
 use Rattle.listing.proofs.TextLaws.{sets-append}
 use Rattle.listing.proofs.PlaceLaws.{place-end}
 use Rattle.listing.proofs.WholeLaws.{whole-is, whole-at, refused-whole}

@@ -2,7 +2,7 @@
 use paged::StreamNumber;
 use paged::least;
 ghost use mathlib.Core.Path.{_≡_};
-ghost use Prim.Native.Nat.{_+_, _≤_};
+ghost use Prim.Native.Nat.{_+_};
 ghost use Rattle.listing.specs.Listing.{lineOf, placeOf};
 
 pub enum Place {

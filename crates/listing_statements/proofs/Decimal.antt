@@ -1,5 +1,5 @@
 -- A number in decimal, by its digits from the last on.
-use mathlib.Core.Path.{_≡_, refl, sym, _∙_, ap}
+use mathlib.Core.Path.{_≡_, refl}
 use mathlib.Core.Logic.{⊎-elim}
 use mathlib.Core.List.{List, [], _∷_, _++_}
 use Prim.Native.Nat.{ℕ, zero, suc, _+_, _-_, _*_, _/_, _%_, _≤_, _<_}
@@ -8,7 +8,7 @@ use borrow.Author.Tests.{lt-ltb, le-ltb}
 use lib.ListN.{length, getD, length-append, List·getD-append}
 use lib.Seq.{getD-at}
 use Rattle.outcome.proofs.OutcomeLaws.{below-or}
-use Rattle.listing.specs.Text.{digit, spelled, decimal}
+use Rattle.listing.specs.Text.{digit, spelled}
 use Rattle.listing_statements.specs.Statements.{valueFrom, Decimal}
 
 value-last : (before : ℕ) (xs : List ℕ) (c : ℕ) → valueFrom before (xs ++ c ∷ []) ≡ valueFrom before xs * 10 + (c - 48)

@@ -1,21 +1,17 @@
 -- Lines in two runs are one run, and a part ends where the next begins.
-use mathlib.Core.Path.{_≡_, refl, sym, _∙_, ap}
+use mathlib.Core.Path.{_≡_, refl, _∙_, ap}
 use mathlib.Core.Logic.{⊎-elim}
-use mathlib.Core.List.{List, [], _∷_, _++_, append-assoc, append-nil}
+use mathlib.Core.List.{List, _++_, append-assoc, append-nil}
 use Prim.Native.Nat.{ℕ, zero, suc, _+_, _-_, _≤_, _<_}
 use native.Mathlib.Omega.{arith}
-use native.Mathlib.Decide.{le-ind}
 use borrow.Author.Tests.{le-leb, lt-ltb, le-ltb}
 use lib.Dec.{leb}
 use lib.ListN.{length}
-use Rattle.outcome.specs.Outcome.{ok, refused}
 use Rattle.outcome.proofs.OutcomeLaws.{by-test, below-or}
 use Rattle.parse_buffer.specs.Bytes.{File}
-use Rattle.listing.specs.Listing.{listable, lineAt, linesFrom, listing, lineOf, placeOf, most}
+use Rattle.listing.specs.Listing.{lineAt, linesFrom, listing, lineOf, placeOf, most}
 use Rattle.listing.specs.Promises.{linesIn, textOf, partIn}
 use Rattle.listing.proofs.PlaceLaws.{line-most}
-use Rattle.listing.specs.declared.place.Place.{Place}
-use Rattle.listing.specs.declared.place.Place.the-variants.{Head, Stream, End}
 use Rattle.listing_statements.specs.Statements.{restFrom, InParts}
 
 module _ (line : ℕ → List ℕ) (from : ℕ) where

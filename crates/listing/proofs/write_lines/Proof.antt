@@ -2,7 +2,6 @@
 -- before this one. The measure is what is left of the lines. Assumes a file that is listed, and room for the longest line.
 use mathlib.Core.Path.{_≡_}
 use Prim.Native.Nat.{_+_, _-_, _≤_}
-use native.Mathlib.Omega.{arith}
 use borrow.Author.Needs.{needs}
 use lib.ListN.{length}
 use Rattle.parse_buffer.specs.Bytes.{byteAt}
