@@ -18,12 +18,12 @@ abbrev pub decimal : ℕ → List ℕ
 decimal n = spelled (suc n) n
 
 -- "streams "
-abbrev pub streams : List ℕ
-streams = 0x73 ∷ 0x74 ∷ 0x72 ∷ 0x65 ∷ 0x61 ∷ 0x6d ∷ 0x73 ∷ 0x20 ∷ []
+abbrev pub streamsWord : List ℕ
+streamsWord = 0x73 ∷ 0x74 ∷ 0x72 ∷ 0x65 ∷ 0x61 ∷ 0x6d ∷ 0x73 ∷ 0x20 ∷ []
 
 -- "refused "
-abbrev pub refused : List ℕ
-refused = 0x72 ∷ 0x65 ∷ 0x66 ∷ 0x75 ∷ 0x73 ∷ 0x65 ∷ 0x64 ∷ 0x20 ∷ []
+abbrev pub refusedWord : List ℕ
+refusedWord = 0x72 ∷ 0x65 ∷ 0x66 ∷ 0x75 ∷ 0x73 ∷ 0x65 ∷ 0x64 ∷ 0x20 ∷ []
 
 abbrev pub blank : List ℕ
 blank = 0x20 ∷ []
@@ -34,11 +34,11 @@ newline = 0x0a ∷ []
 
 -- the head: `streams N`
 abbrev pub headText : ℕ → List ℕ
-headText n = streams ++ decimal n ++ newline
+headText n = streamsWord ++ decimal n ++ newline
 
 -- `refused C V`
 abbrev pub refusalText : paper.Refusal → List ℕ
-refusalText why = refused ++ decimal (why .number) ++ blank ++ decimal (why .value) ++ newline
+refusalText why = refusedWord ++ decimal (why .number) ++ blank ++ decimal (why .value) ++ newline
 
 -- `SIZE SLICES`
 abbrev pub sizeText : ℕ → ℕ → List ℕ

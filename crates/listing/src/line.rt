@@ -27,6 +27,7 @@ ghost use Rattle.listing.specs.Text.{lineText};
 ghost use Rattle.listing.specs.Listing.{lineAt, shown};
 ghost use Rattle.listing.specs.Inner.{Putting, Whole, shownIn, Up};
 
+// A stream's size, and how many slices it has.
 pub(crate) struct Shown {
     pub size: u32,
     pub slices: usize,
@@ -98,8 +99,9 @@ fn show(file: &[u8], s: Listable, stream: StreamNumber, before: usize) -> Line
     };
     let own = x.header;
     let page = own.size as usize;
-    let n = pages_needed_to_store(page, x.size as usize);
-    let slices = count_slices(file, page, x.first, x.size as usize, n);
+    let length = x.size as usize;
+    let n = pages_needed_to_store(page, length);
+    let slices = count_slices(file, page, x.first, length, n);
     Line::Stream(Shown {
         size: x.size,
         slices,

@@ -39,14 +39,11 @@ returns-2 c = search show-cases
 cast-page : tie.Need-cast-page
 cast-page c = search needs
 
-cast-pages-needed-to-store : tie.Need-cast-pages-needed-to-store
-cast-pages-needed-to-store c = search needs
+cast-length : tie.Need-cast-length
+cast-length c = search needs
 
 pages-needed-to-store-requires : tie.Need-pages-needed-to-store-requires
 pages-needed-to-store-requires c κs = (search show-size, search needs)
-
-cast-count-slices : tie.Need-cast-count-slices
-cast-count-slices c = search needs
 
 count-slices-requires : tie.Need-count-slices-requires
 count-slices-requires c κs = (search show-size, (search (show-entries, needs), search needs))
@@ -69,8 +66,7 @@ show-spec =
     up-requires
     returns-2
     cast-page
-    cast-pages-needed-to-store
+    cast-length
     pages-needed-to-store-requires
-    cast-count-slices
     count-slices-requires
     returns-3)
