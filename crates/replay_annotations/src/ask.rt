@@ -1,5 +1,5 @@
-// One question to the library, and the digest of what it answers: the number and the steps at a place, and all of the
-// bytes decoded into stores of several rooms. Each answer begins with the number of its case.
+// One question to the library, and the digest of what it answers: the number and the steps at a place, the steps in both
+// forms, and all of the bytes decoded into stores of several rooms. Each answer begins with the number of its case.
 use annotations::Decoded;
 use annotations::Refusal;
 use annotations::Step;
@@ -21,6 +21,10 @@ const ALL_DECODED: u64 = 6;
 const ALL_REFUSED: u64 = 7;
 
 const NO_ROOM: u64 = 8;
+
+// No answer of a list begins with it.
+const READER_DIFFERS: u64 = 9;
+
 // Document 01's number of the refusal for want of room.
 const NO_ROOM_REFUSAL: u64 = 10;
 
@@ -53,46 +57,78 @@ struct Walk {
 }
 
 // The steps from a place on, going on after a refusal. A step moves by at least one byte, so one more than the length
-// is enough to come to the end.
+// is enough to come to the end. They are asked twice, of `step_at` and of the reader.
 fn steps(d: Digest, bytes: &[u8], at: usize) -> Digest {
     let mut walk = Walk {
         digest: d,
         at,
         ended: false,
     };
+    let mut read = walk;
     for _ in 0..=bytes.len() {
         walk = step(walk, bytes);
+        read = next(read, bytes);
     }
-    walk.digest
+    both(walk.digest, read.digest)
+}
+
+// The digest that both forms came to. Where they differ a word that no answer has is mixed in, so that the record differs.
+fn both(walked: Digest, read: Digest) -> Digest {
+    if walked.agrees(read) {
+        return walked;
+    }
+    walked.plain(READER_DIFFERS)
 }
 
 fn step(walk: Walk, bytes: &[u8]) -> Walk {
     if walk.ended {
         return walk;
     }
-    let d = walk.digest;
-    match annotations::step_at(bytes, walk.at) {
+    let step = annotations::step_at(bytes, walk.at);
+    let at = match step {
+        Step::Annotation(a) => a.next,
+        Step::End(place) => place,
+        Step::Refused(_, place) => place,
+    };
+    Walk {
+        digest: told(walk.digest, step),
+        at,
+        ended: is_end(step),
+    }
+}
+
+// The same step of a reader; what follows goes on from where the reader then stands.
+fn next(walk: Walk, bytes: &[u8]) -> Walk {
+    if walk.ended {
+        return walk;
+    }
+    let moved = reader::next_at(bytes, walk.at);
+    let step = moved.step;
+    Walk {
+        digest: told(walk.digest, step),
+        at: moved.place,
+        ended: is_end(step),
+    }
+}
+
+fn told(d: Digest, step: Step) -> Digest {
+    match step {
         Step::Annotation(a) => {
             let annotation = a.annotation;
             let t = annotation.triple();
             let kind = d.plain(ANNOTATION).plain(0).plain(t.opcode as u64);
             let placed = kind.signed(t.first).signed(t.second).plain(a.next as u64);
-            Walk {
-                digest: placed.plain(flag(annotation.emits_line_info())),
-                at: a.next,
-                ended: false,
-            }
+            placed.plain(flag(annotation.emits_line_info()))
         }
-        Step::End(place) => Walk {
-            digest: d.plain(END).plain(place as u64),
-            at: place,
-            ended: true,
-        },
-        Step::Refused(why, place) => Walk {
-            digest: refused(d, STEP_REFUSED, why, place),
-            at: place,
-            ended: false,
-        },
+        Step::End(place) => d.plain(END).plain(place as u64),
+        Step::Refused(why, place) => refused(d, STEP_REFUSED, why, place),
+    }
+}
+
+fn is_end(step: Step) -> bool {
+    match step {
+        Step::End(_) => true,
+        _ => false,
     }
 }
 
