@@ -1,7 +1,7 @@
 -- The statements on the reader, each proved under the name of its record.
 use mathlib.Core.Path.{_≡_, refl, sym, _∙_, ap}
-use mathlib.Core.List.{List, [], _∷_, map}
-use Prim.Native.Nat.{ℕ, zero, suc, _≤_}
+use mathlib.Core.List.{List, _∷_, map}
+use Prim.Native.Nat.{ℕ, _≤_}
 use native.Mathlib.Omega.{arith}
 use lib.ListN.{length}
 use denote.Ref.{RefT, now}
@@ -12,8 +12,8 @@ use Rattle.annotations.specs.declared.step.Step.{Step}
 use Rattle.annotations.specs.declared.step.Step.the-variants.{End}
 use Rattle.annotations.proofs.Told.{told}
 use Rattle.reader.specs.Place.{placeAfter}
-use Rattle.reader.specs.Promises.{Starting, Moving, MovingAt}
-use Rattle.reader.specs.Statements.{SingleValued, StaysAtTheEnd, Called, none, more, stepsFrom, placeFrom, CallsAreSteps, Calling}
+use Rattle.reader.specs.Promises.{Moving}
+use Rattle.reader.specs.Statements.{SingleValued, StaysAtTheEnd, Called, none, more, stepsFrom, placeFrom, Calling}
 use Rattle.reader.specs.declared.BinaryAnnotationsIter.{BinaryAnnotationsIter}
 use Rattle.reader.specs.declared.Moved.{Moved}
 use Rattle.reader.proofs.EndLaws.{end-place, step-past}

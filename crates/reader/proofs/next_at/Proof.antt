@@ -2,7 +2,7 @@
 -- place, lent to `next` for a lifetime within the bytes', and comes back as `next` left it; its place is read. All that the proof
 -- knows of `new` and of `next` is that each meets its contract.
 -- Assumes nothing.
-use mathlib.Core.Path.{_≡_, refl, _∙_, ap, subst}
+use mathlib.Core.Path.{refl, _∙_, ap, subst}
 use Prim.Native.Nat.{ℕ, _<_, _^_}
 use mathlib.Core.List.{List, [], _∷_}
 use lib.ListN.{length}
@@ -52,7 +52,7 @@ use Rattle.annotations.specs.declared.step.Step.{Step}
 use Rattle.annotations.proofs.step.Step as E
 use Rattle.annotations.proofs.step.Step.Laws as E′
 use Rattle.reader.specs.Place.{placeAfter}
-use Rattle.reader.specs.Promises.{Starting, Moving, MovingAt}
+use Rattle.reader.specs.Promises.{Starting, Moving}
 use Rattle.reader.specs.declared.BinaryAnnotationsIter.{BinaryAnnotationsIter}
 use Rattle.reader.specs.declared.Moved.{Moved}
 use Rattle.reader.proofs.Loan.{shorter, ended, Back, within, whole-again}
