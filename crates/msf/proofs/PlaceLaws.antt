@@ -1,9 +1,10 @@
 -- The ways out of mapping and of extraction.
-use mathlib.Core.Path.{_≡_, sym, _∙_, ap}
-use mathlib.Core.List.{List}
+use mathlib.Core.Path.{_≡_, refl, sym, _∙_, ap}
+use mathlib.Core.List.{List, [], map}
 use Prim.Native.Nat.{ℕ, _+_, _*_, _^_, min, _≤_, _<_}
 use native.Mathlib.Omega.{arith}
 use borrow.Author.Tests.{le-leb, lt-leb}
+use lib.Count
 use lib.ListN.{length}
 use lib.Seq.{sets}
 use Rattle.outcome.specs.Outcome.{Outcome, ok, refused, _>>=_, _>>_, require, Unchanged}
@@ -11,7 +12,7 @@ use Rattle.outcome.specs.Refusal as paper
 use Rattle.outcome.specs.Store.{written}
 use Rattle.parse_buffer.specs.Bytes.{File}
 use Rattle.paged.specs.Refusal.{refusalIn}
-use Rattle.paged.specs.PageSize.{PageSize, need}
+use Rattle.paged.specs.PageSize.{PageSize, smallest, sizeFits, need}
 use Rattle.paged.specs.Checks.{liesInFile, checkedIn}
 use Rattle.paged.proofs.SizeLaws.{need-covers, need-least}
 use Rattle.paged.specs.declared.refusal.Refusal.{Refusal}
@@ -21,6 +22,7 @@ use Rattle.paged.specs.declared.pages.Checked.the-variants as checked
 use Rattle.directory.proofs.DirectoryLaws.{reached-size}
 use Rattle.slices.specs.Slices.{slicesOf, cut}
 use Rattle.slices.specs.Inner.{streamPage, Writing}
+use Rattle.slices.specs.declared.SourceSlice.{SourceSlice}
 use Rattle.slices.proofs.SliceLaws.{cut-past-pages}
 use Rattle.stream.specs.Stream.{ownPages, found}
 use Rattle.stream.specs.Promises.{soughtIn, Finding}
@@ -30,10 +32,12 @@ use Rattle.stream.specs.declared.Sought.{Sought}
 use Rattle.stream.specs.declared.Sought.the-variants as sought
 use Rattle.msf.specs.Msf.{lengthOf, Placed, placed, slicesIn, mapping, bytesThrough, readable, extraction}
 use Rattle.msf.specs.Promises.{mappedIn, extractedIn, mapped, lengthIn, Maps, Extracts}
+use Rattle.msf.specs.Inner.{slicesFor, nothingFor, planned, Plans}
 use Rattle.msf.specs.declared.limit.Limit.{Limit}
 use Rattle.msf.specs.declared.limit.Limit.the-variants.{None, AtMost}
 use Rattle.msf.specs.declared.to_slices.Mapping.{Mapping}
 use Rattle.msf.specs.declared.to_slices.Mapping.the-variants as mapping
+use Rattle.msf.specs.declared.to_slices.Plan.{Plan}
 use Rattle.msf.specs.declared.to_bytes.Extracted.{Extracted}
 use Rattle.msf.specs.declared.to_bytes.Extracted.the-variants as extracted
 
@@ -44,6 +48,40 @@ limited size e g = g ∙ rw e
 pub length-most : (l : Limit) (size : ℕ) → lengthOf l size ≤ size
 length-most None size = omega arith
 length-most (AtMost n) size = omega arith
+
+-- ---- a plan of nothing
+smallest-passes : PageSize smallest
+unfolding sizeFits Count.ones Count.onesIn
+smallest-passes = record { fits = refl; least = omega arith; most = omega arith }
+
+module _ (f : File) {len k room : ℕ} {limit : Limit} {x : Mapping} where
+  nothing-planned : mappedIn x ≡ mapped f (mapping f len k limit room) → [] ≡ slicesFor f (mapping f len k limit room) → Plans f len k limit room (nothingFor x)
+  unfolding slicesOf cut need
+  nothing-planned a s =
+      record { answer = a; slices = s; fit = omega arith; size = smallest-passes; pages = refl; small = omega arith }
+
+-- ---- a plan that is carried out
+-- what a store holds afterwards: the first entries are what is to be written, and a refusal writes nothing
+module _ (f : File) where
+  pub written-is : {B : Type 0} (g : SourceSlice → B) (o : Outcome paper.Refusal Placed) (store : List B) → sets store 0 (map g (slicesFor f o)) ≡ written o (λ x. map g (slicesIn f x)) store
+  unfolding written slicesFor
+  written-is g (ok x) store = refl
+  written-is g (refused why) store = refl
+
+module _ {f : File} {len k room : ℕ} {limit : Limit} {r : Plan} (p : Plans f len k limit room r) (o t : List ℕ) (room-is : room ≡ min (length o) (length t)) where
+  pub room-offsets : length (planned f r) ≤ length o
+  room-offsets = omega (arith, p .fit)
+
+  pub room-sizes : length (planned f r) ≤ length t
+  room-sizes = omega (arith, p .fit)
+
+  pub map-planned : {o′ t′ : List ℕ} → Writing (planned f r) o t o′ t′ → Maps f len k limit o t (r .answer) o′ t′
+  map-planned w =
+      record {
+        answer = rw (← room-is) (p .answer);
+        offsets-after = w .offsets-are ∙ rw (← room-is, p .slices) (written-is f (λ (s : SourceSlice). s .offset) _ o);
+        sizes-after = w .sizes-are ∙ rw (← room-is, p .slices) (written-is f (λ (s : SourceSlice). s .size) _ t);
+      }
 
 module _ {f : File} {len k : ℕ} (limit : Limit) {r : Sought} (p : Finding f len k r) where
   -- ---- a stream that was not found
@@ -58,10 +96,9 @@ module _ {f : File} {len k : ℕ} (limit : Limit) {r : Sought} (p : Finding f le
     unfolding soughtIn
     below = ap soughtIn e
 
-    pub map-none : (x : Mapping) (o t : List ℕ) → Unchanged (soughtIn r) (mappedIn x) → Maps f len k limit o t x o t
-    unfolding mapping mapped written _>>=_
-    map-none x o t u =
-        record { answer = u .is _ below ∙ rw none-placed; offsets-after = rw none-placed; sizes-after = rw none-placed }
+    pub plan-none : (x : Mapping) {y : Plan} (room : ℕ) → Unchanged (soughtIn r) (mappedIn x) → y ≡ nothingFor x → Plans f len k limit room y
+    unfolding mapping mapped slicesFor _>>=_
+    plan-none x room u e = rw e (nothing-planned f (u .is _ below ∙ rw none-placed) (rw none-placed))
 
     pub extract-none : (x : Extracted) (o : List ℕ) → Unchanged (soughtIn r) (extractedIn x) → Extracts f len k limit o x o
     unfolding readable extraction lengthIn written _>>=_
@@ -111,34 +148,26 @@ module _ {f : File} {len k : ℕ} (limit : Limit) {r : Sought} (p : Finding f le
             cut-past-pages (x .header .size) own (omega arith) l n (ownPages x) covered few
 
         -- ---- mapping
-        module _ (o t : List ℕ) {c : ℕ} (count-is : c ≡ length (cut l (slicesOf (x .header .size) own n))) {room : ℕ} (room-is : room ≡ min (length o) (length t)) where
+        module _ {c : ℕ} (count-is : c ≡ length (cut l (slicesOf (x .header .size) own n))) (room : ℕ) where
           counted : length (slicesIn f here) ≡ c
           counted = ap length slices-are ∙ sym count-is
 
-          pub map-no-room : room < c → Maps f len k limit o t (mapping.Refused (NoRoom c)) o t
-          unfolding mapping mapped mappedIn written require _>>=_ _>>_
-          map-no-room h =
+          pub plan-no-room : {y : Plan} → room < c → y ≡ nothingFor (mapping.Refused (NoRoom c)) → Plans f len k limit room y
+          unfolding mapping mapped mappedIn slicesFor require _>>=_ _>>_
+          plan-no-room h e =
+              rw e (nothing-planned f (rw (is-placed, counted, lt-leb c room h)) (rw (is-placed, counted, lt-leb c room h)))
+
+          pub plan-fine : x .header .directory < 2 ^ 32 → c ≤ room → Plans f len k limit room (record { answer = mapping.Mapped (record { slices = c; length = l }); size = x .header .size; first = x .first; length = l; pages = n })
+          unfolding mapping mapped mappedIn slicesFor require _>>=_ _>>_
+          plan-fine small h =
               record {
-                answer = rw (is-placed, ← room-is, counted, lt-leb c room h);
-                offsets-after = rw (is-placed, ← room-is, counted, lt-leb c room h);
-                sizes-after = rw (is-placed, ← room-is, counted, lt-leb c room h);
+                answer = rw (is-placed, counted, le-leb c room h, counted);
+                slices = rw (is-placed, counted, le-leb c room h, slices-are);
+                fit = omega (arith, count-is);
+                size = place-size;
+                pages = pages-are;
+                small = pages-fit small;
               }
-
-          module _ (h : c ≤ room) where
-            pub room-offsets : length (cut l (slicesOf (x .header .size) own n)) ≤ length o
-            room-offsets = omega (arith, count-is, room-is)
-
-            pub room-sizes : length (cut l (slicesOf (x .header .size) own n)) ≤ length t
-            room-sizes = omega (arith, count-is, room-is)
-
-            pub map-fine : {o′ t′ : List ℕ} → Writing (cut l (slicesOf (x .header .size) own n)) o t o′ t′ → Maps f len k limit o t (mapping.Mapped (record { slices = c; length = l })) o′ t′
-            unfolding mapping mapped mappedIn written require _>>=_ _>>_
-            map-fine w =
-                record {
-                  answer = rw (is-placed, ← room-is, counted, le-leb c room h, counted);
-                  offsets-after = w .offsets-are ∙ rw (is-placed, ← room-is, counted, le-leb c room h, slices-are);
-                  sizes-after = w .sizes-are ∙ rw (is-placed, ← room-is, counted, le-leb c room h, slices-are);
-                }
 
         -- ---- extraction
         module _ (o : List ℕ) (c : Checked) (judged : checkedIn c ≡ liesInFile len (x .header .size) own l n) where
@@ -174,6 +203,6 @@ module _ {f : File} {len k : ℕ} (limit : Limit) {r : Sought} (p : Finding f le
                   after = g ∙ rw (is-placed, lies-as, w, le-leb l (length o) h);
                 }
 
-pub ruleset map-cases = (map-none, map-no-room, map-fine)
+pub ruleset plan-cases = (plan-none, plan-no-room, plan-fine)
 
 pub ruleset extract-cases = (extract-none, extract-ends, extract-no-room, extract-fine)

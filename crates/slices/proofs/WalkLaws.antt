@@ -52,18 +52,18 @@ pub record Ends (xs : List SourceSlice) (s : SourceSlice) : Type 0 where
 length-snoc : (ys : List SourceSlice) (s : SourceSlice) → length (ys ++ s ∷ []) ≡ suc (length ys)
 length-snoc ys s = length-append ys (s ∷ []) ∙ omega arith
 
-map-snoc : (g : SourceSlice → ℕ) (ys : List SourceSlice) (s : SourceSlice) → map g (ys ++ s ∷ []) ≡ map g ys ++ g s ∷ []
+map-snoc : {B : Type 0} (g : SourceSlice → B) (ys : List SourceSlice) (s : SourceSlice) → map g (ys ++ s ∷ []) ≡ map g ys ++ g s ∷ []
 map-snoc g [] s = refl
-map-snoc g (y ∷ ys) s = ap (λ (l : List ℕ). g y ∷ l) (map-snoc g ys s)
+map-snoc {B} g (y ∷ ys) s = ap (λ (l : List B). g y ∷ l) (map-snoc g ys s)
 
-sets-snoc : (st : List ℕ) (k : ℕ) (l : List ℕ) (a : ℕ) → sets st k (l ++ a ∷ []) ≡ set (sets st k l) (k + length l) a
+sets-snoc : {B : Type 0} (st : List B) (k : ℕ) (l : List B) (a : B) → sets st k (l ++ a ∷ []) ≡ set (sets st k l) (k + length l) a
 sets-snoc st k [] a = rw add-zero
 sets-snoc st k (x ∷ l) a =
     let e : suc k + length l ≡ k + suc (length l) = omega arith in
     sets-snoc (set st k x) (suc k) l a ∙ rw e
 
--- a store that holds these slices' numbers, with one more at its end, or with another last one
-module _ (g : SourceSlice → ℕ) (st : List ℕ) (ys : List SourceSlice) where
+-- a store that holds something of each of these slices, with one more at its end, or with another last one
+module _ {B : Type 0} (g : SourceSlice → B) (st : List B) (ys : List SourceSlice) where
   put-new : (s : SourceSlice) → set (sets st 0 (map g ys)) (length ys) (g s) ≡ sets st 0 (map g (ys ++ s ∷ []))
   put-new s =
       let e : length ys ≡ 0 + length (map g ys) = rw length-map (omega arith) in
@@ -85,11 +85,11 @@ module _ (p : ℕ) (page : ℕ → ℕ) (bytes : ℕ) where
     joined : joins (W i .count) (W i .last .0) (page i) ≡ continues page i
 
   -- after a page there is a last slice, it is the walk's, and putting it in its place gives the pieces
-  record Stands-on (i : ℕ) : Type 0 where
+  record Stands-on (i : ℕ) : Type 1 where
     many : W (suc i) .count ≡ length (P (suc i))
     last : W (suc i) .last .0 ≡ page i
     ends : Ends (P (suc i)) (W (suc i) .slice)
-    puts : (g : SourceSlice → ℕ) (st : List ℕ) → set (sets st 0 (map g (P i))) (W (suc i) .count - 1) (g (W (suc i) .slice)) ≡ sets st 0 (map g (P (suc i)))
+    puts : {B : Type 0} (g : SourceSlice → B) (st : List B) → set (sets st 0 (map g (P i))) (W (suc i) .count - 1) (g (W (suc i) .slice)) ≡ sets st 0 (map g (P (suc i)))
 
   some-slices : {i : ℕ} → Stands-on i → 0 < W (suc i) .count
   some-slices {i} s =
@@ -185,7 +185,7 @@ module _ (p : ℕ) (page : ℕ → ℕ) (bytes : ℕ) where
     walk-more e = e ∙ rw (is, add-one)
 
   module _ {n : ℕ} (s : PageSize p) (whole : n ≡ need p bytes) where
-    all-pieces : cut bytes (slicesOf p page n) ≡ pieces p page bytes n
+    pub all-pieces : cut bytes (slicesOf p page n) ≡ pieces p page bytes n
     all-pieces =
         let l = s .least in
         let pos : 0 < p = omega arith in
@@ -194,20 +194,20 @@ module _ (p : ℕ) (page : ℕ → ℕ) (bytes : ℕ) where
     pub walk-all : {i : ℕ} {w : Walk} → w ≡ walked p page bytes i → i ≤ n → n ≤ i → w .count ≡ length (cut bytes (slicesOf p page n))
     walk-all is l m = rw (all-pieces, is, le-antisymm l m) (walked-many p page bytes n)
 
+    pub walk-few : (i : ℕ) → i ≤ n → walked p page bytes i .count ≤ length (cut bytes (slicesOf p page n))
+    walk-few i h = rw all-pieces (let c = count-below p page bytes i n h in let e = walked-many p page bytes n in omega arith)
+
     -- ---- writing: the pieces of the first i pages stand in the stores
     module _ {o₀ s₀ o t : List ℕ} where
       pub write-all : {i : ℕ} → Writing (pieces p page bytes i) o₀ s₀ o t → i ≤ n → n ≤ i → Writing (cut bytes (slicesOf p page n)) o₀ s₀ o t
       write-all w l m = rw (all-pieces, ← le-antisymm l m) w
 
       module _ {i : ℕ} {w : Walk} (h : i < n) (is : w ≡ walked p page bytes (i + 1)) (so-far : Writing (pieces p page bytes i) o₀ s₀ o t) where
-        few : w .count ≤ length (cut bytes (slicesOf p page n))
-        few = rw (all-pieces, is) (let c = count-below p page bytes (i + 1) n (omega arith) in let e = walked-many p page bytes n in omega arith)
-
         pub room-offsets : length (cut bytes (slicesOf p page n)) ≤ length o₀ → w .count ≤ length o
-        room-offsets r = rw (so-far .offsets-are, length-sets) (let f = few in omega arith)
+        room-offsets r = rw (so-far .offsets-are, length-sets, is) (let f = walk-few (i + 1) (omega arith) in omega arith)
 
         pub room-sizes : length (cut bytes (slicesOf p page n)) ≤ length s₀ → w .count ≤ length t
-        room-sizes r = rw (so-far .sizes-are, length-sets) (let f = few in omega arith)
+        room-sizes r = rw (so-far .sizes-are, length-sets, is) (let f = walk-few (i + 1) (omega arith) in omega arith)
 
   pub write-none : (o t : List ℕ) → Writing (pieces p page bytes 0) o t o t
   unfolding pieces
@@ -228,6 +228,20 @@ module _ (p : ℕ) (page : ℕ → ℕ) (bytes : ℕ) where
           offsets-are = g .0 ∙ rw (x .offsets-are, next, add-one) (s (λ (y : SourceSlice). y .offset) o₀);
           sizes-are = g .1 ∙ rw (x .sizes-are, next, add-one) (s (λ (y : SourceSlice). y .size) s₀);
         }
+
+-- ---- the same with one store of slices
+map-same : (xs : List SourceSlice) → map (λ (s : SourceSlice). s) xs ≡ xs
+map-same [] = refl
+map-same (x ∷ xs) = ap (λ (l : List SourceSlice). x ∷ l) (map-same xs)
+
+module _ (p : ℕ) (page : ℕ → ℕ) (bytes i : ℕ) where
+  pub walk-some : 0 < walked p page bytes (suc i) .count
+  walk-some = some-slices p page bytes (stands-on p page bytes i)
+
+  pub store-more : (st : List SourceSlice) → set (sets st 0 (pieces p page bytes i)) (walked p page bytes (suc i) .count - 1) (walked p page bytes (suc i) .slice) ≡ sets st 0 (pieces p page bytes (suc i))
+  store-more st =
+      let e = stands-on p page bytes i .puts (λ (s : SourceSlice). s) st in
+      rw (← map-same (pieces p page bytes i), ← map-same (pieces p page bytes (suc i))) e
 
 -- the stores keep their lengths
 module _ {xs : List SourceSlice} {o₀ s₀ o t : List ℕ} (w : Writing xs o₀ s₀ o t) where

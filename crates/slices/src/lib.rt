@@ -2,7 +2,8 @@
 // walked one at a time, each with as many of its bytes as the length still wants, so `push` and `truncate` are one, and
 // none can come after the other.
 //
-// The walk is taken twice: `count_slices` judges the room, `write_slices` writes two lent stores.
+// The walk is taken twice: `count_slices` judges the room, `write_slices` writes two lent stores. Whoever lends a store of
+// another kind takes it by `begin` and `extend`.
 use paged::PageNumber;
 use paged::Pages;
 use paged::page_at;
@@ -72,7 +73,8 @@ pub fn write_slices(
     }
 }
 
-fn begin() -> Walk
+// A walk over no page yet.
+pub fn begin() -> Walk
     ensures { λ r. ⌜ r ≡ start ⌝ }
 {
     Walk {
@@ -83,7 +85,7 @@ fn begin() -> Walk
 }
 
 // The walk over page i too.
-fn extend(file: &[u8], size: usize, first: usize, bytes: usize, i: usize, walk: Walk) -> Walk
+pub fn extend(file: &[u8], size: usize, first: usize, bytes: usize, i: usize, walk: Walk) -> Walk
     requires { ⌜ PageSize size ⌝ }
     requires { ⌜ first + i < 2 ^ 32 ⌝ }
     requires { ⌜ Near size i walk ⌝ }
