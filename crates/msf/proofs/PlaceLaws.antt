@@ -68,6 +68,11 @@ module _ (f : File) where
   written-is g (ok x) store = refl
   written-is g (refused why) store = refl
 
+  pub written-slices : (o : Outcome paper.Refusal Placed) (store : List SourceSlice) → sets store 0 (slicesFor f o) ≡ written o (slicesIn f) store
+  unfolding written slicesFor
+  written-slices (ok x) store = refl
+  written-slices (refused why) store = refl
+
 module _ {f : File} {len k room : ℕ} {limit : Limit} {r : Plan} (p : Plans f len k limit room r) (o t : List ℕ) (room-is : room ≡ min (length o) (length t)) where
   pub room-offsets : length (planned f r) ≤ length o
   room-offsets = omega (arith, p .fit)

@@ -1,0 +1,17 @@
+-- The promise of mapping into a slice store: the whole answer, and the store at exit.
+use mathlib.Core.Path.{_≡_}
+use mathlib.Core.List.{List}
+use Prim.Native.Nat.{ℕ}
+use lib.ListN.{length}
+use Rattle.outcome.specs.Store.{written}
+use Rattle.parse_buffer.specs.Bytes.{File}
+use Rattle.slices.specs.declared.SourceSlice.{SourceSlice}
+use Rattle.msf.specs.Msf.{slicesIn, mapping}
+use Rattle.msf.specs.Promises.{mappedIn, mapped}
+use Rattle.msf.specs.declared.limit.Limit.{Limit}
+use Rattle.msf.specs.declared.to_slices.Mapping.{Mapping}
+
+-- ---- `map_into`: `map`'s definitions, with one store, whose length is the room
+pub record MapsInto (f : File) (len k : ℕ) (limit : Limit) (store : List SourceSlice) (r : Mapping) (store′ : List SourceSlice) : Type 0 where
+  pub answer : mappedIn r ≡ mapped f (mapping f len k limit (length store))
+  pub after : store′ ≡ written (mapping f len k limit (length store)) (slicesIn f) store

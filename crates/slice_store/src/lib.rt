@@ -1,0 +1,97 @@
+// The slice store: a stream mapped into a lent run of slice records, as the Rust's `PageList` hands out
+// (`src/msf/page_list.rs`, `src/source.rs`), where `msf::map` takes two number stores.
+//
+// All that is decided is decided by value: `begin` judges, and `step` says which entry a page more changes, and to what.
+// `map_into` alone touches the store.
+use msf::Limit;
+use msf::Mapping;
+use msf::StreamNumber;
+use msf::judge;
+use slices::SourceSlice;
+use slices::Walk;
+use slices::extend;
+ghost use mathlib.Core.Path.{_≡_};
+ghost use lib.ListN.{length};
+ghost use Rattle.parse_buffer.specs.Bytes.{byteAt};
+ghost use Rattle.slice_store.specs.Inner.{Begins, Ready, stepped};
+ghost use Rattle.slice_store.specs.Promises.{MapsInto};
+
+// Where the writing stands: the pages whose first `bytes` bytes are asked for, and the walk over the first `page` of them.
+struct Cursor {
+    size: usize,
+    first: usize,
+    bytes: usize,
+    pages: usize,
+    page: usize,
+    walk: Walk,
+}
+
+// The answer, and where the writing starts: before no page at all where it is refused.
+struct Begun {
+    answer: Mapping,
+    start: Cursor,
+}
+
+// One page more: an entry of the store, what it is now, and where the writing stands after it.
+struct Stepped {
+    at: usize,
+    slice: SourceSlice,
+    next: Cursor,
+}
+
+// Steps 1 to 8, then 10, as `msf::map`.
+pub fn map_into(
+    file: &[u8],
+    stream: StreamNumber,
+    limit: Limit,
+    store: &mut [SourceSlice],
+) -> Mapping
+    ensures { λ r. ⌜ MapsInto (byteAt (now (file .entry))) (length (now (file .entry))) (stream .0) limit (now (store .entry)) r (now (store .exit)) ⌝ }
+{
+    let begun = begin(file, stream, limit, store.len());
+    let mut cursor = begun.start;
+    while cursor.page < cursor.pages {
+        let stepped = step(file, cursor);
+        store[stepped.at] = stepped.slice;
+        cursor = stepped.next;
+    }
+    begun.answer
+}
+
+fn begin(file: &[u8], stream: StreamNumber, limit: Limit, room: usize) -> Begun
+    ensures { λ r. ⌜ Begins (byteAt (now (file .entry))) (length (now (file .entry))) (stream .0) limit room r ⌝ }
+{
+    let plan = judge(file, stream, limit, room);
+    let answer = plan.answer;
+    let walk = slices::begin();
+    let start = Cursor {
+        size: plan.size,
+        first: plan.first,
+        bytes: plan.length,
+        pages: plan.pages,
+        page: 0,
+        walk,
+    };
+    Begun { answer, start }
+}
+
+fn step(file: &[u8], c: Cursor) -> Stepped
+    requires { ⌜ Ready c ⌝ }
+    ensures { λ r. ⌜ r ≡ stepped (byteAt (now (file .entry))) c ⌝ }
+{
+    let walk = extend(file, c.size, c.first, c.bytes, c.page, c.walk);
+    let slice = walk.slice;
+    let next = Cursor {
+        size: c.size,
+        first: c.first,
+        bytes: c.bytes,
+        pages: c.pages,
+        page: c.page + 1,
+        walk,
+    };
+    Stepped {
+        at: walk.count - 1,
+        slice,
+        next,
+    }
+}
