@@ -201,193 +201,200 @@ module _ {M : Type 1} (𝓤 : URA M) (H : Heap 𝓤) (A : Atoms 𝓤) (W : Given
   said-begin : (r : Begun) → ent 𝓤 (ensured 𝓤 H A begin.ended (begin.clauses 𝓤 H A mem run) (κ, tt) asks tt r) (fact 𝓤 (Beginning r))
   said-begin r = exE 𝓤 _ (λ ws. snd∗ 𝓤 (sem 𝓤 H A (lasts begin.ended (κ, tt) asks ws)) (fact 𝓤 (Beginning r)))
 
-  -- ---- once it has answered
-  module _ (r : Begun) (begun : Beginning r) (answered : Made (r .answer)) where
-    abbrev pages : ℕ
-    pages = begun .plan .pages
+  -- ---- the locals
+  module _ (l₀ l₁ l₂ l₃ l₄ l₅ l₆ l₇ l₈ l₉ l₁₀ l₁₁ : ℕ) where
+    abbrev En : Env 𝓤 H
+    En = (E′.mir, l₀) ∷ (shr-ty, l₁) ∷ (N′.mir, l₂) ∷ (L′.mir, l₃) ∷ (mut-ty, l₄) ∷ (B′.mir, l₅) ∷ (K′.mir, l₆) ∷ (S′.mir, l₇) ∷ (word, l₈) ∷ (tyBool, l₉) ∷ (word, l₁₀) ∷ (tyPtr, l₁₁) ∷ []
 
-    -- after i pages: the cursor, and the store
-    abbrev cur : ℕ → Cursor
-    cur i = cursorAt f (begun .plan) i
+    -- the row, the open borrow with its ghost variable, what the file owns, and its token; then the locals, the last first
+    abbrev Holding : List SourceSlice → List (Item 𝓤) → List (Item 𝓤)
+    Holding l Γ =
+        ‵ (row R fullShare l b o) ∷ ‵ (fobor κ′ q′ (Held R (length ys) b o γ)) ∷ ‵ (fobs γ (codedHoleys R .code (heres R ys))) ∷ ‵ (fauth γ (codedHoleys R .code (heres R ys)))
+        ∷ ‵ Bytes ∷ ‵ (flft κ q) ∷ Γ
 
-    abbrev zs : ℕ → List SourceSlice
-    zs i = storeAt f (begun .plan) ys i
-
-    exits : (i : ℕ) → i ≡ pages
-        → ent 𝓤 (⋆ 𝓤 H A (‵ (fobs γ (codedHoleys R .code (heres R (zs i)))) ∷ ‵ (fbor κ′ (Held R (length (zs i)) b o γ)) ∷ ‵ (flft κ′ q′) ∷ ‵ Bytes ∷ ‵ (flft κ q) ∷ [])) (Post (mval (r .answer)))
-    exits i e =
-        qed W (‵ (fobs γ (codedHoleys R .code (heres R (zs i)))) ∷ ‵ (fbor κ′ (Held R (length (zs i)) b o γ)) ∷ ‵ (flft κ′ q′) ∷ ‵ Bytes ∷ ‵ (flft κ q) ∷ []) ∵
-        suffices ! _ (ends-at 𝓤 H A map-into.ended stayed (map-into.clauses 𝓤 H A mem run) W (((κ, (κ′, tt)), (q, (q′, tt)), tt, a, vals), tt) (mval (r .answer)) (r .answer) (tt, (tt, (tt, (zs i, tt)))) (tt, (tt, (tt, (same, tt))))) $ says ! mapped $
-        nothing ! $ move ! (3 ∷ 0 ∷ []) $ join ! $ move ! (4 ∷ 0 ∷ []) $ join ! $ frame ! $
-        -- [obs; the borrow; what the file owns]: what each parameter owns, from the last to the first
-        fjoin ! $ pureI ! (at-slice R (x′ (zs i)) (v′ ∷ [])) (tt, (tt, tt)) (ap (λ (m : ℕ). sliceVal (b, o) m ∷ []) (sym same), subst (Room R) (sym same) room′) $ fjoin ! $
-        nothing ! $ move ! (1 ∷ 0 ∷ []) $ fjoin ! $ owned ! L.the-row (Is L.the-row) (EL.makes L.the-type L′.the-plain 𝓤 H A) limit _ limit-is $ fjoin ! $
-        owned ! N.the-row (Is N.the-row) (LL.makes N.the-type N′.the-plain 𝓤 H A) stream _ stream-is $ fjoin ! $ move ! (1 ∷ 0 ∷ []) $ fjoin ! $ frame ! $
-        owned ! E.the-row (Is E.the-row) (EL.makes E.the-type E′.the-plain 𝓤 H A) (r .answer) _ answered $ done !
-      where
-        same : length (zs i) ≡ length ys
-        same = store-length f (begun .plan) ys i
-
-        mapped : MapsInto f (length (x .now)) (stream .0) limit ys (r .answer) (zs i)
-        mapped = subst (λ (n : ℕ). MapsInto f (length (x .now)) (stream .0) limit ys (r .answer) (zs n)) (sym e) (maps-into begun)
-
-    -- ---- the call of `step`
-    -- what it is passed, at the cursor after i pages
-    abbrev to-step : ℕ → Step 𝓤 H A mem run .Ghost
-    to-step i = (((κ, tt), (q, tt), tt, (x, (cur i, tt)), (v ∷ [], (K′.lowered (cur i) ∷ [], tt))), tt)
-
-    gives-step : (i : ℕ) → i < pages → Good (cur i) → ent 𝓤 (sep 𝓤 (sem 𝓤 H A Bytes) (A .lft κ q)) (sep 𝓤 (Step 𝓤 H A mem run .pre (to-step i)) (sem 𝓤 H A Bytes))
-    gives-step i less good =
-        qed W (‵ Bytes ∷ ‵ (flft κ q) ∷ []) ∵
-        use1 W (‵ Bytes ⊛ ‵ Bytes) (shr-slice-copy 𝓤 H A W (named 0) κ u8 .twice x (v ∷ [])) $ split ! $
-        nothing ! $ owned ! K.the-row (Is K.the-row) (LL.makes K.the-type K′.the-plain 𝓤 H A) (cur i) _ good $ fjoin ! $ move ! (1 ∷ 0 ∷ []) $ fjoin ! $
-        nothing ! $ move ! (3 ∷ 0 ∷ []) $ join ! $ move ! (0 ∷ 1 ∷ []) $
-        use2 W (raw (Step 𝓤 H A mem run .pre (to-step i))) asked $ frame ! $ done !
-      where
-        asked : ent 𝓤 (onEntry 𝓤 H A step.signature (κ, tt) (q, tt) (x, (cur i, tt)) (v ∷ [], (K′.lowered (cur i) ∷ [], tt))) (Step 𝓤 H A mem run .pre (to-step i))
-        asked = qed W ((‵ (flft κ q) ⊛ ‵ ftrue) ∷ ‵ (owns (ShrSlice (named 0) κ u8 ∷ K.the-row ∷ []) (x, (cur i, tt)) (v ∷ [], (K′.lowered (cur i) ∷ [], tt))) ∷ []) ∵ says ! (ready f (begun .plan) (begun .plans) i less) $ frame ! $ done !
-
-    said-step : (i : ℕ) (t : Stepped) → ent 𝓤 (ensured 𝓤 H A step.ended (step.clauses 𝓤 H A mem run) (κ, tt) (x, (cur i, tt)) tt t) (fact 𝓤 (t ≡ stepped f (cur i)))
-    said-step i t = exE 𝓤 _ (λ ws. snd∗ 𝓤 (sem 𝓤 H A (lasts step.ended (κ, tt) (x, (cur i, tt)) ws)) (fact 𝓤 (t ≡ stepped f (cur i))))
-
-    -- ---- the loop
-    abbrev Upto : Type 0
-    Upto = (i : ℕ) × ((i ≤ pages) × Good (cur i))
-
-    abbrev Nearer : Upto → Upto → Type 0
-    Nearer j i = pages - j .0 < pages - i .0
-
-    Nearer-wf : WellFounded Nearer
-    Nearer-wf = InvImage·wf (λ (i : Upto). pages - i .0) (Nat·lt-wfRel .wf)
-
-    module _ (𝓣 : Tables 𝓤 H) (known : Triple 𝓤 (𝓣 .C #step) (Step 𝓤 H A mem run)) (l₀ l₁ l₂ l₃ l₄ l₅ l₆ l₇ l₈ l₉ l₁₀ l₁₁ : ℕ) where
-      abbrev C : Calls 𝓤 H
-      C = 𝓣 .C
-
-      abbrev Λ : Loops 𝓤 H
-      Λ = 𝓣 .Λ
-
-      abbrev En : Env 𝓤 H
-      En = (E′.mir, l₀) ∷ (shr-ty, l₁) ∷ (N′.mir, l₂) ∷ (L′.mir, l₃) ∷ (mut-ty, l₄) ∷ (B′.mir, l₅) ∷ (K′.mir, l₆) ∷ (S′.mir, l₇) ∷ (word, l₈) ∷ (tyBool, l₉) ∷ (word, l₁₀) ∷ (tyPtr, l₁₁) ∷ []
-
-      -- the invariant: the row, the open borrow with its ghost variable, what the file owns, and its token; then the locals, the last first
-      abbrev At : Upto → List (Item 𝓤)
-      At i = ‵ (row R fullShare (zs (i .0)) b o) ∷ ‵ (fobor κ′ q′ (Held R (length ys) b o γ)) ∷ ‵ (fobs γ (codedHoleys R .code (heres R ys))) ∷ ‵ (fauth γ (codedHoleys R .code (heres R ys)))
-          ∷ ‵ Bytes ∷ ‵ (flft κ q)
-          ∷ ‵ (froom tyPtr l₁₁ 0) ∷ ‵ (fdies tyPtr l₁₁) ∷ ‵ (froom word l₁₀ 0) ∷ ‵ (fdies word l₁₀) ∷ ‵ (froom tyBool l₉ 0) ∷ ‵ (fdies tyBool l₉) ∷ ‵ (fat fullShare word l₈ 0 (vint w64 (length ys))) ∷ ‵ (fdies word l₈)
-          ∷ ‵ (froom S′.mir l₇ 0) ∷ ‵ (fdies S′.mir l₇) ∷ ‵ (fat fullShare K′.mir l₆ 0 (K′.lowered (cur (i .0)))) ∷ ‵ (fdies K′.mir l₆) ∷ ‵ (fat fullShare B′.mir l₅ 0 (bval r)) ∷ ‵ (fdies B′.mir l₅)
-          ∷ ‵ (fat fullShare mut-ty l₄ 0 v′) ∷ ‵ (fdies mut-ty l₄) ∷ ‵ (fat fullShare L′.mir l₃ 0 (lval limit)) ∷ ‵ (fdies L′.mir l₃) ∷ ‵ (fat fullShare N′.mir l₂ 0 (N′.lowered stream)) ∷ ‵ (fdies N′.mir l₂)
-          ∷ ‵ (fat fullShare shr-ty l₁ 0 v) ∷ ‵ (fdies shr-ty l₁) ∷ ‵ (froom E′.mir l₀ 0) ∷ ‵ (fdies E′.mir l₀) ∷ []
-
-      abbrev Turned : Upto → Out → SProp 𝓤
-      Turned i = afterTurn 𝓤 H (Below 𝓤 H A Nearer At i) (afterBlock 𝓤 H (afterSeq 𝓤 H (Wp 𝓤 H C Λ En mir.t-5 (atReturn 𝓤 H En Post)) (atReturn 𝓤 H En Post)))
-
-      -- a turn that takes one page more
-      more : (i : Upto) → i .0 < pages → Sq W (At i) (runs C Λ En mir.turn-1 (anyQ (Turned i)))
-      unfolding afterTurn
-      more i less =
-          assigns ! (bin ! (load ! (from ! (fld ! refl (stop !))) (look-in ! 16 (sub ! 4 refl (whole !)))) (load ! (from ! (fld ! refl (stop !))) (look-in ! 16 (sub ! 3 refl (whole !)))) tt) (from ! (stop !)) (init ! 10 refl (tt, tt)) $
-          rewrite ! 10 (λ (t : Bool). ‵ (fat fullShare tyBool l₉ 0 (vbool t))) (lt-ltb _ _ less) refl $ stays ! (load ! (from ! (stop !)) (look ! 10 refl)) $
-          -- the call: what the file owns and its token go, and come back with the result
-          move ! (4 ∷ 5 ∷ []) $ use2 W (raw (Step 𝓤 H A mem run .pre (to-step (i .0))) ⊛ ‵ Bytes) (gives-step (i .0) less (i .1 .1)) $ split ! $
-          calls-at ! (fmOf 𝓤 H (W .laws) 𝓣) (Step 𝓤 H A mem run) known (to-step (i .0)) (and-then ! (load ! (from ! (stop !)) (look ! 26 refl)) (and-then ! (load ! (from ! (stop !)) (look ! 16 refl)) (no-more !))) (λ u.
-          use1 W (later (some (λ (t : Stepped). ((‵ (flft κ q) ⊛ ‵ ftrue) ⊛ ‵ (S.the-row .own t (u ∷ []))) ⊛ raw (ensured 𝓤 H A step.ended (step.clauses 𝓤 H A mem run) (κ, tt) (x, (cur (i .0), tt)) tt t)))) (id⊢ 𝓤 _) $ await ! tt $ pick ! (λ t.
-          split ! $ move ! (1 ∷ []) $ use1 W (raw (fact 𝓤 (t ≡ next))) (said-step (i .0) t) $ heard ! (t ≡ next) (λ e. split ! $ move ! (1 ∷ []) $
-          peeks ! S.the-row (Is S.the-row) (shows 𝓤 H A S.the-row) t (u ∷ []) (λ is.
-          land ! (from ! (stop !)) (init ! 15 refl (LL.lawful S.the-type S′.the-laws 𝓤 H A W .typed t _ is .0)) $
-          rewrite ! 15 (λ (w : Val). ‵ (fat fullShare S′.mir l₇ 0 w)) (ap only (LL.tells S.the-type S′.the-laws t _ is) ∙ ap S′.lowered e) refl $
-          drop ! $ split ! $ move ! (1 ∷ []) $ drop ! $ move ! (2 ∷ 3 ∷ 4 ∷ 5 ∷ 1 ∷ 0 ∷ []) $
-          -- [the row; the open borrow; obs; auth; what the file owns; its token; _11; …; _0; …]: the entry is stored
-          assigns ! (bin ! (load ! (from ! (fld ! refl (stop !))) (look-in ! 14 (sub ! 0 refl (whole !)))) (lit ! tt) (record { fits = byte-fits })) (from ! (stop !)) (init ! 8 refl (tt, record { fits = byte-fits })) $
-          assigns ! (bin ! (load ! (from ! (fld ! refl (stop !))) (look-in ! 20 (sub ! 0 refl (whole !)))) (load ! (from ! (stop !)) (look ! 8 refl)) tt) (from ! (stop !)) (init ! 6 refl (tt, tt)) $
-          rewrite ! 6 (λ (p : ℕ). ‵ (fat fullShare tyPtr l₁₁ 0 (vptr b p))) (sym (place-is 16 o (next .at))) refl $
-          elem-out ! R (Is R) (shows 𝓤 H A R) (LL.vals T.the-type T′.the-laws) (LL.tells T.the-type T′.the-laws) fullShare (zs (i .0)) (next .at) blank b o within (λ _.
-          assigns ! (of-opd ! (load ! (from ! (fld ! refl (stop !))) (look-in ! 16 (sub ! 1 refl (whole !))))) (from ! (hop ! (look ! 8 refl) (stop !))) (store-raw ! 0 refl (LL.lawful T.the-type T′.the-laws 𝓤 H A W .typed (next .slice) _ (slice-is t u is e) .0)) $
-          move ! (1 ∷ []) $ drop ! $ owned ! R (Is R) (LL.makes T.the-type T′.the-plain 𝓤 H A) (next .slice) _ (slice-is t u is e) $ move ! (1 ∷ 0 ∷ []) $ elem-put ! R fullShare (zs (i .0)) (next .at) (next .slice) (T′.lowered (next .slice) ∷ []) b o within $
-          rewrite ! 0 (λ (l : List SourceSlice). ‵ (row R fullShare l b o)) (store-next f (begun .plan) (i .0) ys) refl $
-          -- the cursor moves on
-          assigns-last ! (of-opd ! (load ! (from ! (fld ! refl (stop !))) (look-in ! 14 (sub ! 2 refl (whole !))))) (from ! (stop !)) (store ! 16 refl (LL.lawful K.the-type K′.the-laws 𝓤 H A W .typed (next .next) _ (cursor-is t u is e) .0)) $
-          rewrite ! 16 (λ (c : Cursor). ‵ (fat fullShare K′.mir l₆ 0 (K′.lowered c))) (cursor-next f (begun .plan) (i .0)) refl $ forget ! 6 refl $ forget ! 8 refl $ forget ! 10 refl $ forget ! 14 refl $
-          again ! Nearer At i (suc (i .0), (less, subst Good (cursor-next f (begun .plan) (i .0)) (cursor-is t u is e))) (nearer pages (i .0) less))))))
-        where
-          next : Stepped
-          next = stepped f (cur (i .0))
-
-          inside : next .at < length ys
-          inside = place-inside f (begun .plan) (begun .plans) (i .0) less
-
-          within : next .at < length (zs (i .0))
-          within = subst (λ (m : ℕ). next .at < m) (sym (store-length f (begun .plan) ys (i .0))) inside
-
-          byte-fits : next .at * 16 < 2 ^ 64
-          byte-fits = place-fits (next .at) (length ys) inside (room′ .1)
-
-          good : (t : Stepped) (u : Val) → Is S.the-row t (u ∷ []) → t ≡ next → Is S.the-row next (S′.lowered next ∷ [])
-          good t u is e = subst (λ (w : Stepped). Is S.the-row w (S′.lowered w ∷ [])) e (subst (Is S.the-row t) (LL.tells S.the-type S′.the-laws t _ is) is)
-
-          slice-is : (t : Stepped) (u : Val) → Is S.the-row t (u ∷ []) → t ≡ next → Is R (next .slice) (T′.lowered (next .slice) ∷ [])
-          slice-is t u is e = LL.owed S.the-type S′.the-laws next _ (good t u is e) .1 .0
-
-          cursor-is : (t : Stepped) (u : Val) → Is S.the-row t (u ∷ []) → t ≡ next → Good (next .next)
-          cursor-is t u is e = LL.owed S.the-type S′.the-laws next _ (good t u is e) .1 .1 .0
-
-      -- the turn that leaves the loop, and what follows it: the borrow is closed at the list that is filled
-      ends : (i : Upto) → i .0 ≡ pages → Sq W (At i) (runs C Λ En mir.turn-1 (anyQ (Turned i)))
-      unfolding afterTurn
-      ends i e =
-          assigns ! (bin ! (load ! (from ! (fld ! refl (stop !))) (look-in ! 16 (sub ! 4 refl (whole !)))) (load ! (from ! (fld ! refl (stop !))) (look-in ! 16 (sub ! 3 refl (whole !)))) tt) (from ! (stop !)) (init ! 10 refl (tt, tt)) $
-          rewrite ! 10 (λ (t : Bool). ‵ (fat fullShare tyBool l₉ 0 (vbool t))) (le-ltb (i .0) pages (omega arith)) refl $ leaves-loop ! (load ! (from ! (stop !)) (look ! 10 refl)) $ exec ! C Λ En mir.t-5 (atRet En Post) $
-          assigns ! (of-opd ! (load ! (from ! (fld ! refl (stop !))) (look-in ! 18 (sub ! 0 refl (whole !))))) (from ! (stop !)) (init ! 28 refl (EL.lawful E.the-type E′.the-laws 𝓤 H A W tt .typed (r .answer) _ answered .0)) $
-          closes-slice ! tt R ys (zs (i .0)) (store-length f (begun .plan) ys (i .0)) b o $
-          -- [obs; the borrow; its token; what the file owns; its token; _11; …; _0; …]
-          returns ! (look ! 27 refl) $ forget ! 9 refl $ forget ! 11 refl $ forget ! 15 refl $ forget ! 17 refl $ forget ! 19 refl $ forget ! 21 refl $ forget ! 23 refl $ forget ! 25 refl $ forget ! 27 refl $
-          move ! (27 ∷ 28 ∷ []) $ free1 ! $ move ! (25 ∷ 26 ∷ []) $ free1 ! $ move ! (23 ∷ 24 ∷ []) $ free1 ! $ move ! (21 ∷ 22 ∷ []) $ free1 ! $ move ! (19 ∷ 20 ∷ []) $ free1 ! $ move ! (17 ∷ 18 ∷ []) $ free1 ! $
-          move ! (15 ∷ 16 ∷ []) $ free1 ! $ move ! (13 ∷ 14 ∷ []) $ free1 ! $ move ! (11 ∷ 12 ∷ []) $ free1 ! $ move ! (9 ∷ 10 ∷ []) $ free1 ! $ move ! (7 ∷ 8 ∷ []) $ free1 ! $ move ! (5 ∷ 6 ∷ []) $ free1 ! $ free0 ! $
-          by ! (exits (i .0) e)
-
-      turns : (i : Upto) → Sq W (At i) (runs C Λ En mir.turn-1 (anyQ (Turned i)))
-      turns i = ⊎-elim (ends i) (more i) (eq-or-lt-of-le (i .1 .0))
-
-      -- the loop, from its start
-      looping : (good : Good (cur 0)) → Sq W (At (0, (zero-le, good))) (runs C Λ En mir.t-4 (atRet En Post))
-      looping good = first ! $ blocks ! $ loops ! 𝓣 Nearer Nearer-wf At turns (0, (zero-le, good))
-
-  -- ---- up to the loop
-  module _ (𝓣 : Tables 𝓤 H) (known-begin : Triple 𝓤 (𝓣 .C #begin) (Begin 𝓤 H A mem run)) (known-step : Triple 𝓤 (𝓣 .C #step) (Step 𝓤 H A mem run)) (l₀ l₁ l₂ l₃ l₄ l₅ l₆ l₇ l₈ l₉ l₁₀ l₁₁ : ℕ) where
-    -- the room is read, and the borrow is open
-    abbrev Asking : List (Item 𝓤)
-    Asking = ‵ (row R fullShare ys b o) ∷ ‵ (fobor κ′ q′ (Held R (length ys) b o γ)) ∷ ‵ (fobs γ (codedHoleys R .code (heres R ys))) ∷ ‵ (fauth γ (codedHoleys R .code (heres R ys)))
-        ∷ ‵ Bytes ∷ ‵ (flft κ q)
-        ∷ ‵ (froom tyPtr l₁₁ 0) ∷ ‵ (fdies tyPtr l₁₁) ∷ ‵ (froom word l₁₀ 0) ∷ ‵ (fdies word l₁₀) ∷ ‵ (froom tyBool l₉ 0) ∷ ‵ (fdies tyBool l₉) ∷ ‵ (fat fullShare word l₈ 0 (vint w64 (length ys))) ∷ ‵ (fdies word l₈)
-        ∷ ‵ (froom S′.mir l₇ 0) ∷ ‵ (fdies S′.mir l₇) ∷ ‵ (froom K′.mir l₆ 0) ∷ ‵ (fdies K′.mir l₆) ∷ ‵ (froom B′.mir l₅ 0) ∷ ‵ (fdies B′.mir l₅)
-        ∷ ‵ (fat fullShare mut-ty l₄ 0 v′) ∷ ‵ (fdies mut-ty l₄) ∷ ‵ (fat fullShare L′.mir l₃ 0 (lval limit)) ∷ ‵ (fdies L′.mir l₃) ∷ ‵ (fat fullShare N′.mir l₂ 0 (N′.lowered stream)) ∷ ‵ (fdies N′.mir l₂)
+    -- those that are as they were passed, and room for the result
+    abbrev Passed : List (Item 𝓤)
+    Passed =
+        ‵ (fat fullShare mut-ty l₄ 0 v′) ∷ ‵ (fdies mut-ty l₄) ∷ ‵ (fat fullShare L′.mir l₃ 0 (lval limit)) ∷ ‵ (fdies L′.mir l₃) ∷ ‵ (fat fullShare N′.mir l₂ 0 (N′.lowered stream)) ∷ ‵ (fdies N′.mir l₂)
         ∷ ‵ (fat fullShare shr-ty l₁ 0 v) ∷ ‵ (fdies shr-ty l₁) ∷ ‵ (froom E′.mir l₀ 0) ∷ ‵ (fdies E′.mir l₀) ∷ []
 
-    abbrev Env₀ : Env 𝓤 H
-    Env₀ = (E′.mir, l₀) ∷ (shr-ty, l₁) ∷ (N′.mir, l₂) ∷ (L′.mir, l₃) ∷ (mut-ty, l₄) ∷ (B′.mir, l₅) ∷ (K′.mir, l₆) ∷ (S′.mir, l₇) ∷ (word, l₈) ∷ (tyBool, l₉) ∷ (word, l₁₀) ∷ (tyPtr, l₁₁) ∷ []
+    -- ---- once it has answered
+    module _ (r : Begun) (begun : Beginning r) (answered : Made (r .answer)) where
+      abbrev pages : ℕ
+      pages = begun .plan .pages
 
-    -- what is known of the result's parts: the answer, and the cursor before the first page
-    parts : (r : Begun) (u : Val) → Is B.the-row r (u ∷ []) → Made (r .answer) × Good (r .start)
-    parts r u is = let p = LL.owed B.the-type B′.the-laws r _ is in (p .0, p .1 .0)
+      -- after i pages: the cursor, and the store
+      abbrev cur : ℕ → Cursor
+      cur i = cursorAt f (begun .plan) i
 
-    first-cursor : (r : Begun) (begun : Beginning r) → r .start ≡ cursorAt f (begun .plan) 0
-    first-cursor r begun = begun .start ∙ cursor-start f (begun .plan)
+      abbrev zs : ℕ → List SourceSlice
+      zs i = storeAt f (begun .plan) ys i
 
-    begins : Sq W Asking (runs (𝓣 .C) (𝓣 .Λ) Env₀ mir.t-2 (atRet Env₀ Post))
-    begins =
-        move ! (4 ∷ 5 ∷ []) $ use2 W (raw (Begin 𝓤 H A mem run .pre to-begin) ⊛ ‵ Bytes) gives-begin $ split ! $
-        calls-at ! (fmOf 𝓤 H (W .laws) 𝓣) (Begin 𝓤 H A mem run) known-begin to-begin
-        (and-then ! (load ! (from ! (stop !)) (look ! 26 refl)) (and-then ! (load ! (from ! (stop !)) (look ! 24 refl)) (and-then ! (load ! (from ! (stop !)) (look ! 22 refl)) (and-then ! (load ! (from ! (stop !)) (look ! 12 refl)) (no-more !))))) (λ u.
-        use1 W (later (some (λ (r : Begun). ((‵ (flft κ q) ⊛ ‵ ftrue) ⊛ ‵ (B.the-row .own r (u ∷ []))) ⊛ raw (ensured 𝓤 H A begin.ended (begin.clauses 𝓤 H A mem run) (κ, tt) asks tt r)))) (id⊢ 𝓤 _) $ await ! tt $ pick ! (λ r.
-        split ! $ move ! (1 ∷ []) $ use1 W (raw (fact 𝓤 (Beginning r))) (said-begin r) $ heard ! (Beginning r) (λ begun. split ! $ move ! (1 ∷ []) $
-        peeks ! B.the-row (Is B.the-row) (shows 𝓤 H A B.the-row) r (u ∷ []) (λ is.
-        land ! (from ! (stop !)) (init ! 19 refl (LL.lawful B.the-type B′.the-laws 𝓤 H A W .typed r _ is .0)) $
-        rewrite ! 19 (λ (w : Val). ‵ (fat fullShare B′.mir l₅ 0 w)) (ap only (LL.tells B.the-type B′.the-laws r _ is)) refl $
-        drop ! $ split ! $ move ! (1 ∷ []) $ drop ! $ move ! (2 ∷ 3 ∷ 4 ∷ 5 ∷ 1 ∷ 0 ∷ []) $
-        -- [the row; the open borrow; obs; auth; what the file owns; its token; _11; …; _0; …]: the cursor starts
-        assigns ! (of-opd ! (load ! (from ! (fld ! refl (stop !))) (look-in ! 18 (sub ! 1 refl (whole !))))) (from ! (stop !)) (init ! 16 refl (LL.lawful K.the-type K′.the-laws 𝓤 H A W .typed (r .start) _ (parts r u is .1) .0)) $
-        rewrite ! 16 (λ (c : Cursor). ‵ (fat fullShare K′.mir l₆ 0 (K′.lowered c))) (first-cursor r begun) refl $ rewrite ! 0 (λ (l : List SourceSlice). ‵ (row R fullShare l b o)) (store-start f (begun .plan) ys) refl $
-        looping r begun (parts r u is .0) 𝓣 known-step l₀ l₁ l₂ l₃ l₄ l₅ l₆ l₇ l₈ l₉ l₁₀ l₁₁ (subst Good (first-cursor r begun) (parts r u is .1))))))
+      exits : (i : ℕ) → i ≡ pages
+          → ent 𝓤 (⋆ 𝓤 H A (‵ (fobs γ (codedHoleys R .code (heres R (zs i)))) ∷ ‵ (fbor κ′ (Held R (length (zs i)) b o γ)) ∷ ‵ (flft κ′ q′) ∷ ‵ Bytes ∷ ‵ (flft κ q) ∷ [])) (Post (mval (r .answer)))
+      exits i e =
+          qed W (‵ (fobs γ (codedHoleys R .code (heres R (zs i)))) ∷ ‵ (fbor κ′ (Held R (length (zs i)) b o γ)) ∷ ‵ (flft κ′ q′) ∷ ‵ Bytes ∷ ‵ (flft κ q) ∷ []) ∵
+          suffices ! _ (ends-at 𝓤 H A map-into.ended stayed (map-into.clauses 𝓤 H A mem run) W (((κ, (κ′, tt)), (q, (q′, tt)), tt, a, vals), tt) (mval (r .answer)) (r .answer) (tt, (tt, (tt, (zs i, tt)))) (tt, (tt, (tt, (same, tt))))) $ says ! mapped $
+          nothing ! $ move ! (3 ∷ 0 ∷ []) $ join ! $ move ! (4 ∷ 0 ∷ []) $ join ! $ frame ! $
+          -- [obs; the borrow; what the file owns]: what each parameter owns, from the last to the first
+          fjoin ! $ pureI ! (at-slice R (x′ (zs i)) (v′ ∷ [])) (tt, (tt, tt)) (ap (λ (m : ℕ). sliceVal (b, o) m ∷ []) (sym same), subst (Room R) (sym same) room′) $ fjoin ! $
+          nothing ! $ move ! (1 ∷ 0 ∷ []) $ fjoin ! $ owned ! L.the-row (Is L.the-row) (EL.makes L.the-type L′.the-plain 𝓤 H A) limit _ limit-is $ fjoin ! $
+          owned ! N.the-row (Is N.the-row) (LL.makes N.the-type N′.the-plain 𝓤 H A) stream _ stream-is $ fjoin ! $ move ! (1 ∷ 0 ∷ []) $ fjoin ! $ frame ! $
+          owned ! E.the-row (Is E.the-row) (EL.makes E.the-type E′.the-plain 𝓤 H A) (r .answer) _ answered $ done !
+        where
+          same : length (zs i) ≡ length ys
+          same = store-length f (begun .plan) ys i
+
+          mapped : MapsInto f (length (x .now)) (stream .0) limit ys (r .answer) (zs i)
+          mapped = subst (λ (n : ℕ). MapsInto f (length (x .now)) (stream .0) limit ys (r .answer) (zs n)) (sym e) (maps-into begun)
+
+      -- ---- the call of `step`
+      -- what it is passed, at the cursor after i pages
+      abbrev to-step : ℕ → Step 𝓤 H A mem run .Ghost
+      to-step i = (((κ, tt), (q, tt), tt, (x, (cur i, tt)), (v ∷ [], (K′.lowered (cur i) ∷ [], tt))), tt)
+
+      gives-step : (i : ℕ) → i < pages → Good (cur i) → ent 𝓤 (sep 𝓤 (sem 𝓤 H A Bytes) (A .lft κ q)) (sep 𝓤 (Step 𝓤 H A mem run .pre (to-step i)) (sem 𝓤 H A Bytes))
+      gives-step i less good =
+          qed W (‵ Bytes ∷ ‵ (flft κ q) ∷ []) ∵
+          use1 W (‵ Bytes ⊛ ‵ Bytes) (shr-slice-copy 𝓤 H A W (named 0) κ u8 .twice x (v ∷ [])) $ split ! $
+          nothing ! $ owned ! K.the-row (Is K.the-row) (LL.makes K.the-type K′.the-plain 𝓤 H A) (cur i) _ good $ fjoin ! $ move ! (1 ∷ 0 ∷ []) $ fjoin ! $
+          nothing ! $ move ! (3 ∷ 0 ∷ []) $ join ! $ move ! (0 ∷ 1 ∷ []) $
+          use2 W (raw (Step 𝓤 H A mem run .pre (to-step i))) asked $ frame ! $ done !
+        where
+          asked : ent 𝓤 (onEntry 𝓤 H A step.signature (κ, tt) (q, tt) (x, (cur i, tt)) (v ∷ [], (K′.lowered (cur i) ∷ [], tt))) (Step 𝓤 H A mem run .pre (to-step i))
+          asked = qed W ((‵ (flft κ q) ⊛ ‵ ftrue) ∷ ‵ (owns (ShrSlice (named 0) κ u8 ∷ K.the-row ∷ []) (x, (cur i, tt)) (v ∷ [], (K′.lowered (cur i) ∷ [], tt))) ∷ []) ∵ says ! (ready f (begun .plan) (begun .plans) i less) $ frame ! $ done !
+
+      said-step : (i : ℕ) (t : Stepped) → ent 𝓤 (ensured 𝓤 H A step.ended (step.clauses 𝓤 H A mem run) (κ, tt) (x, (cur i, tt)) tt t) (fact 𝓤 (t ≡ stepped f (cur i)))
+      said-step i t = exE 𝓤 _ (λ ws. snd∗ 𝓤 (sem 𝓤 H A (lasts step.ended (κ, tt) (x, (cur i, tt)) ws)) (fact 𝓤 (t ≡ stepped f (cur i))))
+
+      -- ---- the loop
+      abbrev Upto : Type 0
+      Upto = (i : ℕ) × ((i ≤ pages) × Good (cur i))
+
+      abbrev Nearer : Upto → Upto → Type 0
+      Nearer j i = pages - j .0 < pages - i .0
+
+      Nearer-wf : WellFounded Nearer
+      Nearer-wf = InvImage·wf (λ (i : Upto). pages - i .0) (Nat·lt-wfRel .wf)
+
+      -- the invariant
+      abbrev At : Upto → List (Item 𝓤)
+      At i =
+          Holding (zs (i .0))
+          (‵ (froom tyPtr l₁₁ 0) ∷ ‵ (fdies tyPtr l₁₁) ∷ ‵ (froom word l₁₀ 0) ∷ ‵ (fdies word l₁₀) ∷ ‵ (froom tyBool l₉ 0) ∷ ‵ (fdies tyBool l₉) ∷ ‵ (fat fullShare word l₈ 0 (vint w64 (length ys))) ∷ ‵ (fdies word l₈)
+          ∷ ‵ (froom S′.mir l₇ 0) ∷ ‵ (fdies S′.mir l₇) ∷ ‵ (fat fullShare K′.mir l₆ 0 (K′.lowered (cur (i .0)))) ∷ ‵ (fdies K′.mir l₆) ∷ ‵ (fat fullShare B′.mir l₅ 0 (bval r)) ∷ ‵ (fdies B′.mir l₅) ∷ Passed)
+
+      module _ (𝓣 : Tables 𝓤 H) (known : Triple 𝓤 (𝓣 .C #step) (Step 𝓤 H A mem run)) where
+        abbrev C : Calls 𝓤 H
+        C = 𝓣 .C
+
+        abbrev Λ : Loops 𝓤 H
+        Λ = 𝓣 .Λ
+
+        abbrev Turned : Upto → Out → SProp 𝓤
+        Turned i = afterTurn 𝓤 H (Below 𝓤 H A Nearer At i) (afterBlock 𝓤 H (afterSeq 𝓤 H (Wp 𝓤 H C Λ En mir.t-5 (atReturn 𝓤 H En Post)) (atReturn 𝓤 H En Post)))
+
+        -- a turn that takes one page more
+        more : (i : Upto) → i .0 < pages → Sq W (At i) (runs C Λ En mir.turn-1 (anyQ (Turned i)))
+        unfolding afterTurn
+        more i less =
+            assigns ! (bin ! (load ! (from ! (fld ! refl (stop !))) (look-in ! 16 (sub ! 4 refl (whole !)))) (load ! (from ! (fld ! refl (stop !))) (look-in ! 16 (sub ! 3 refl (whole !)))) tt) (from ! (stop !)) (init ! 10 refl (tt, tt)) $
+            rewrite ! 10 (λ (t : Bool). ‵ (fat fullShare tyBool l₉ 0 (vbool t))) (lt-ltb _ _ less) refl $ stays ! (load ! (from ! (stop !)) (look ! 10 refl)) $
+            -- the call: what the file owns and its token go, and come back with the result
+            move ! (4 ∷ 5 ∷ []) $ use2 W (raw (Step 𝓤 H A mem run .pre (to-step (i .0))) ⊛ ‵ Bytes) (gives-step (i .0) less (i .1 .1)) $ split ! $
+            calls-at ! (fmOf 𝓤 H (W .laws) 𝓣) (Step 𝓤 H A mem run) known (to-step (i .0)) (and-then ! (load ! (from ! (stop !)) (look ! 26 refl)) (and-then ! (load ! (from ! (stop !)) (look ! 16 refl)) (no-more !))) (λ u.
+            use1 W (later (some (λ (t : Stepped). ((‵ (flft κ q) ⊛ ‵ ftrue) ⊛ ‵ (S.the-row .own t (u ∷ []))) ⊛ raw (ensured 𝓤 H A step.ended (step.clauses 𝓤 H A mem run) (κ, tt) (x, (cur (i .0), tt)) tt t)))) (id⊢ 𝓤 _) $ await ! tt $ pick ! (λ t.
+            split ! $ move ! (1 ∷ []) $ use1 W (raw (fact 𝓤 (t ≡ next))) (said-step (i .0) t) $ heard ! (t ≡ next) (λ e. split ! $ move ! (1 ∷ []) $
+            peeks ! S.the-row (Is S.the-row) (shows 𝓤 H A S.the-row) t (u ∷ []) (λ is.
+            land ! (from ! (stop !)) (init ! 15 refl (LL.lawful S.the-type S′.the-laws 𝓤 H A W .typed t _ is .0)) $
+            rewrite ! 15 (λ (w : Val). ‵ (fat fullShare S′.mir l₇ 0 w)) (ap only (LL.tells S.the-type S′.the-laws t _ is) ∙ ap S′.lowered e) refl $
+            drop ! $ split ! $ move ! (1 ∷ []) $ drop ! $ move ! (2 ∷ 3 ∷ 4 ∷ 5 ∷ 1 ∷ 0 ∷ []) $
+            -- [the row; the open borrow; obs; auth; what the file owns; its token; _11; …; _0; …]: the entry is stored
+            assigns ! (bin ! (load ! (from ! (fld ! refl (stop !))) (look-in ! 14 (sub ! 0 refl (whole !)))) (lit ! tt) (record { fits = byte-fits })) (from ! (stop !)) (init ! 8 refl (tt, record { fits = byte-fits })) $
+            assigns ! (bin ! (load ! (from ! (fld ! refl (stop !))) (look-in ! 20 (sub ! 0 refl (whole !)))) (load ! (from ! (stop !)) (look ! 8 refl)) tt) (from ! (stop !)) (init ! 6 refl (tt, tt)) $
+            rewrite ! 6 (λ (p : ℕ). ‵ (fat fullShare tyPtr l₁₁ 0 (vptr b p))) (sym (place-is 16 o (next .at))) refl $
+            elem-out ! R (Is R) (shows 𝓤 H A R) (LL.vals T.the-type T′.the-laws) (LL.tells T.the-type T′.the-laws) fullShare (zs (i .0)) (next .at) blank b o within (λ _.
+            assigns ! (of-opd ! (load ! (from ! (fld ! refl (stop !))) (look-in ! 16 (sub ! 1 refl (whole !))))) (from ! (hop ! (look ! 8 refl) (stop !))) (store-raw ! 0 refl (LL.lawful T.the-type T′.the-laws 𝓤 H A W .typed (next .slice) _ (slice-is t u is e) .0)) $
+            move ! (1 ∷ []) $ drop ! $ owned ! R (Is R) (LL.makes T.the-type T′.the-plain 𝓤 H A) (next .slice) _ (slice-is t u is e) $ move ! (1 ∷ 0 ∷ []) $ elem-put ! R fullShare (zs (i .0)) (next .at) (next .slice) (T′.lowered (next .slice) ∷ []) b o within $
+            rewrite ! 0 (λ (l : List SourceSlice). ‵ (row R fullShare l b o)) (store-next f (begun .plan) (i .0) ys) refl $
+            -- the cursor moves on
+            assigns-last ! (of-opd ! (load ! (from ! (fld ! refl (stop !))) (look-in ! 14 (sub ! 2 refl (whole !))))) (from ! (stop !)) (store ! 16 refl (LL.lawful K.the-type K′.the-laws 𝓤 H A W .typed (next .next) _ (cursor-is t u is e) .0)) $
+            rewrite ! 16 (λ (c : Cursor). ‵ (fat fullShare K′.mir l₆ 0 (K′.lowered c))) (cursor-next f (begun .plan) (i .0)) refl $ forget ! 6 refl $ forget ! 8 refl $ forget ! 10 refl $ forget ! 14 refl $
+            again ! Nearer At i (suc (i .0), (less, subst Good (cursor-next f (begun .plan) (i .0)) (cursor-is t u is e))) (nearer pages (i .0) less))))))
+          where
+            next : Stepped
+            next = stepped f (cur (i .0))
+
+            inside : next .at < length ys
+            inside = place-inside f (begun .plan) (begun .plans) (i .0) less
+
+            within : next .at < length (zs (i .0))
+            within = subst (λ (m : ℕ). next .at < m) (sym (store-length f (begun .plan) ys (i .0))) inside
+
+            byte-fits : next .at * 16 < 2 ^ 64
+            byte-fits = place-fits (next .at) (length ys) inside (room′ .1)
+
+            good : (t : Stepped) (u : Val) → Is S.the-row t (u ∷ []) → t ≡ next → Is S.the-row next (S′.lowered next ∷ [])
+            good t u is e = subst (λ (w : Stepped). Is S.the-row w (S′.lowered w ∷ [])) e (subst (Is S.the-row t) (LL.tells S.the-type S′.the-laws t _ is) is)
+
+            slice-is : (t : Stepped) (u : Val) → Is S.the-row t (u ∷ []) → t ≡ next → Is R (next .slice) (T′.lowered (next .slice) ∷ [])
+            slice-is t u is e = LL.owed S.the-type S′.the-laws next _ (good t u is e) .1 .0
+
+            cursor-is : (t : Stepped) (u : Val) → Is S.the-row t (u ∷ []) → t ≡ next → Good (next .next)
+            cursor-is t u is e = LL.owed S.the-type S′.the-laws next _ (good t u is e) .1 .1 .0
+
+        -- the turn that leaves the loop, and what follows it: the borrow is closed at the list that is filled
+        ends : (i : Upto) → i .0 ≡ pages → Sq W (At i) (runs C Λ En mir.turn-1 (anyQ (Turned i)))
+        unfolding afterTurn
+        ends i e =
+            assigns ! (bin ! (load ! (from ! (fld ! refl (stop !))) (look-in ! 16 (sub ! 4 refl (whole !)))) (load ! (from ! (fld ! refl (stop !))) (look-in ! 16 (sub ! 3 refl (whole !)))) tt) (from ! (stop !)) (init ! 10 refl (tt, tt)) $
+            rewrite ! 10 (λ (t : Bool). ‵ (fat fullShare tyBool l₉ 0 (vbool t))) (le-ltb (i .0) pages (omega arith)) refl $ leaves-loop ! (load ! (from ! (stop !)) (look ! 10 refl)) $ exec ! C Λ En mir.t-5 (atRet En Post) $
+            assigns ! (of-opd ! (load ! (from ! (fld ! refl (stop !))) (look-in ! 18 (sub ! 0 refl (whole !))))) (from ! (stop !)) (init ! 28 refl (EL.lawful E.the-type E′.the-laws 𝓤 H A W tt .typed (r .answer) _ answered .0)) $
+            closes-slice ! tt R ys (zs (i .0)) (store-length f (begun .plan) ys (i .0)) b o $
+            -- [obs; the borrow; its token; what the file owns; its token; _11; …; _0; …]
+            returns ! (look ! 27 refl) $ forget ! 9 refl $ forget ! 11 refl $ forget ! 15 refl $ forget ! 17 refl $ forget ! 19 refl $ forget ! 21 refl $ forget ! 23 refl $ forget ! 25 refl $ forget ! 27 refl $
+            move ! (27 ∷ 28 ∷ []) $ free1 ! $ move ! (25 ∷ 26 ∷ []) $ free1 ! $ move ! (23 ∷ 24 ∷ []) $ free1 ! $ move ! (21 ∷ 22 ∷ []) $ free1 ! $ move ! (19 ∷ 20 ∷ []) $ free1 ! $ move ! (17 ∷ 18 ∷ []) $ free1 ! $
+            move ! (15 ∷ 16 ∷ []) $ free1 ! $ move ! (13 ∷ 14 ∷ []) $ free1 ! $ move ! (11 ∷ 12 ∷ []) $ free1 ! $ move ! (9 ∷ 10 ∷ []) $ free1 ! $ move ! (7 ∷ 8 ∷ []) $ free1 ! $ move ! (5 ∷ 6 ∷ []) $ free1 ! $ free0 ! $
+            by ! (exits (i .0) e)
+
+        turns : (i : Upto) → Sq W (At i) (runs C Λ En mir.turn-1 (anyQ (Turned i)))
+        turns i = ⊎-elim (ends i) (more i) (eq-or-lt-of-le (i .1 .0))
+
+        -- the loop, from its start
+        looping : (good : Good (cur 0)) → Sq W (At (0, (zero-le, good))) (runs C Λ En mir.t-4 (atRet En Post))
+        looping good = first ! $ blocks ! $ loops ! 𝓣 Nearer Nearer-wf At turns (0, (zero-le, good))
+
+    -- ---- up to the loop
+    module _ (𝓣 : Tables 𝓤 H) (known-begin : Triple 𝓤 (𝓣 .C #begin) (Begin 𝓤 H A mem run)) (known-step : Triple 𝓤 (𝓣 .C #step) (Step 𝓤 H A mem run)) where
+      -- the room is read
+      abbrev Asking : List (Item 𝓤)
+      Asking =
+          Holding ys
+          (‵ (froom tyPtr l₁₁ 0) ∷ ‵ (fdies tyPtr l₁₁) ∷ ‵ (froom word l₁₀ 0) ∷ ‵ (fdies word l₁₀) ∷ ‵ (froom tyBool l₉ 0) ∷ ‵ (fdies tyBool l₉) ∷ ‵ (fat fullShare word l₈ 0 (vint w64 (length ys))) ∷ ‵ (fdies word l₈)
+          ∷ ‵ (froom S′.mir l₇ 0) ∷ ‵ (fdies S′.mir l₇) ∷ ‵ (froom K′.mir l₆ 0) ∷ ‵ (fdies K′.mir l₆) ∷ ‵ (froom B′.mir l₅ 0) ∷ ‵ (fdies B′.mir l₅) ∷ Passed)
+
+      -- what is known of the result's parts: the answer, and the cursor before the first page
+      parts : (r : Begun) (u : Val) → Is B.the-row r (u ∷ []) → Made (r .answer) × Good (r .start)
+      parts r u is = let p = LL.owed B.the-type B′.the-laws r _ is in (p .0, p .1 .0)
+
+      first-cursor : (r : Begun) (begun : Beginning r) → r .start ≡ cursorAt f (begun .plan) 0
+      first-cursor r begun = begun .start ∙ cursor-start f (begun .plan)
+
+      begins : Sq W Asking (runs (𝓣 .C) (𝓣 .Λ) En mir.t-2 (atRet En Post))
+      begins =
+          move ! (4 ∷ 5 ∷ []) $ use2 W (raw (Begin 𝓤 H A mem run .pre to-begin) ⊛ ‵ Bytes) gives-begin $ split ! $
+          calls-at ! (fmOf 𝓤 H (W .laws) 𝓣) (Begin 𝓤 H A mem run) known-begin to-begin
+          (and-then ! (load ! (from ! (stop !)) (look ! 26 refl)) (and-then ! (load ! (from ! (stop !)) (look ! 24 refl)) (and-then ! (load ! (from ! (stop !)) (look ! 22 refl)) (and-then ! (load ! (from ! (stop !)) (look ! 12 refl)) (no-more !))))) (λ u.
+          use1 W (later (some (λ (r : Begun). ((‵ (flft κ q) ⊛ ‵ ftrue) ⊛ ‵ (B.the-row .own r (u ∷ []))) ⊛ raw (ensured 𝓤 H A begin.ended (begin.clauses 𝓤 H A mem run) (κ, tt) asks tt r)))) (id⊢ 𝓤 _) $ await ! tt $ pick ! (λ r.
+          split ! $ move ! (1 ∷ []) $ use1 W (raw (fact 𝓤 (Beginning r))) (said-begin r) $ heard ! (Beginning r) (λ begun. split ! $ move ! (1 ∷ []) $
+          peeks ! B.the-row (Is B.the-row) (shows 𝓤 H A B.the-row) r (u ∷ []) (λ is.
+          land ! (from ! (stop !)) (init ! 19 refl (LL.lawful B.the-type B′.the-laws 𝓤 H A W .typed r _ is .0)) $
+          rewrite ! 19 (λ (w : Val). ‵ (fat fullShare B′.mir l₅ 0 w)) (ap only (LL.tells B.the-type B′.the-laws r _ is)) refl $
+          drop ! $ split ! $ move ! (1 ∷ []) $ drop ! $ move ! (2 ∷ 3 ∷ 4 ∷ 5 ∷ 1 ∷ 0 ∷ []) $
+          -- [the row; the open borrow; obs; auth; what the file owns; its token; _11; …; _0; …]: the cursor starts
+          assigns ! (of-opd ! (load ! (from ! (fld ! refl (stop !))) (look-in ! 18 (sub ! 1 refl (whole !))))) (from ! (stop !)) (init ! 16 refl (LL.lawful K.the-type K′.the-laws 𝓤 H A W .typed (r .start) _ (parts r u is .1) .0)) $
+          rewrite ! 16 (λ (c : Cursor). ‵ (fat fullShare K′.mir l₆ 0 (K′.lowered c))) (first-cursor r begun) refl $ rewrite ! 0 (λ (l : List SourceSlice). ‵ (row R fullShare l b o)) (store-start f (begun .plan) ys) refl $
+          looping r begun (parts r u is .0) 𝓣 known-step (subst Good (first-cursor r begun) (parts r u is .1))))))
 
   walk : (𝓣 : Tables 𝓤 H) → Triple 𝓤 (𝓣 .C #begin) (Begin 𝓤 H A mem run) → Triple 𝓤 (𝓣 .C #step) (Step 𝓤 H A mem run)
       → ent 𝓤 (onEntry 𝓤 H A map-into.signature (κ, (κ′, tt)) (q, (q′, tt)) a vals) (WpFn 𝓤 H (𝓣 .C) (𝓣 .Λ) code.function (v ∷ N′.lowered stream ∷ lval limit ∷ v′ ∷ []) Post)
@@ -403,7 +410,7 @@ module _ {M : Type 1} (𝓤 : URA M) (H : Heap 𝓤) (A : Atoms 𝓤) (W : Given
       move ! (31 ∷ []) $ split ! $ move ! (1 ∷ []) $ split ! $
       -- [the store's token; true; the file's token; obs; the borrow; the store's fact; true; what limit, stream and the file own; _11; …; _0; …]
       move ! (3 ∷ 4 ∷ 0 ∷ []) $ opens-slice ! tt R ys b o $ keep ! (0 ∷ 1 ∷ 2 ∷ 3 ∷ 10 ∷ 5 ∷ 11 ∷ 12 ∷ 13 ∷ 14 ∷ 15 ∷ 16 ∷ 17 ∷ 18 ∷ 19 ∷ 20 ∷ 21 ∷ 22 ∷ 23 ∷ 24 ∷ 25 ∷ 26 ∷ 27 ∷ 28 ∷ 29 ∷ 30 ∷ 31 ∷ 32 ∷ 33 ∷ 34 ∷ []) $
-      begins 𝓣 known-begin known-step l₀ l₁ l₂ l₃ l₄ l₅ l₆ l₇ l₈ l₉ l₁₀ l₁₁))))))))))))
+      begins l₀ l₁ l₂ l₃ l₄ l₅ l₆ l₇ l₈ l₉ l₁₀ l₁₁ 𝓣 known-begin known-step))))))))))))
 
 module _ {M : Type 1} (𝓤 : URA M) (H : Heap 𝓤) (A : Atoms 𝓤) (W : Given 𝓤 H A) (mem : Memory → SProp 𝓤) (run : Routine → Fun 𝓤) (𝓣 : Tables 𝓤 H)
     (known-begin : Triple 𝓤 (𝓣 .C #begin) (Begin 𝓤 H A mem run)) (known-step : Triple 𝓤 (𝓣 .C #step) (Step 𝓤 H A mem run)) where
