@@ -1,3 +1,4 @@
 pub mod Told
 pub mod Cases
 pub mod Statements
+pub mod BothForms

@@ -46,6 +46,8 @@ single-valued =
           only₃ mappedIn (told .mapped) _ _ _ a b x y u v (p .answer, p .offsets-after, p .sizes-after) (q .answer, q .offsets-after, q .sizes-after);
       extract = λ f len k limit o a b x y p q.
           only₂ extractedIn (told .extracted) _ _ a b x y (p .answer, p .after) (q .answer, q .after);
+      map-into = λ f len k limit s a b x y p q.
+          only₂ mappedIn (told .mapped) _ _ a b x y (p .answer, p .after) (q .answer, q .after);
     }
 
 -- ---- what is placed is of a stream that was found
@@ -105,8 +107,8 @@ extracted-from f len k limit out r out′ p n e =
       is = pl .found;
       size = sym size ∙ pl .size;
       byte = λ i h.
-          ap (λ (l : List ℕ). getD l i 0) after ∙ sets-first out (bytesIn f x) (omega arith) i (omega arith) ∙ through-at f P (ownPage f (x .found)) (x .size) i (omega arith);
-      beyond = λ i h. ap (λ (l : List ℕ). getD l i 0) after ∙ sets-beyond out (bytesIn f x) (omega arith) i (omega arith);
+          ap (λ (l : List ℕ). getD l i 0) after ∙ sets-first 0 out (bytesIn f x) (omega arith) i (omega arith) ∙ through-at f P (ownPage f (x .found)) (x .size) i (omega arith);
+      beyond = λ i h. ap (λ (l : List ℕ). getD l i 0) after ∙ sets-beyond 0 out (bytesIn f x) (omega arith) i (omega arith);
     }
 
 pub the-byte : TheByte

@@ -1,8 +1,8 @@
 -- What holds of the container's operations beyond their promises. proofs/ has a proof of each record.
 use mathlib.Core.Path.{_≡_}
 use mathlib.Core.List.{List}
-use Prim.Native.Nat.{ℕ, _+_, _*_, _/_, _%_, _≤_, _<_}
-use lib.ListN.{getD}
+use Prim.Native.Nat.{ℕ, _+_, _*_, _/_, _%_, min, _≤_, _<_}
+use lib.ListN.{length, getD}
 use denote.Ref.{RefT, now}
 use Rattle.outcome.specs.Outcome.{ok}
 use Rattle.outcome.specs.Only.{Only, Only₂, Only₃, Injective}
@@ -16,10 +16,14 @@ use Rattle.directory.specs.Promises.{countedIn, Counting}
 use Rattle.stream.specs.Stream.{absent, sizeAt, pagesOf, firstOf, ownPage, ownPages, found}
 use Rattle.stream.specs.declared.Found.{Found}
 use Rattle.slices.specs.Slices.{Full, total, placeOf}
+use Rattle.slices.specs.declared.SourceSlice.{SourceSlice}
 use Rattle.msf.specs.Msf.{lengthOf, Placed, slicesIn, mapping}
 use Rattle.msf.specs.Promises.{mappedIn, extractedIn, Maps, Extracts}
 use Rattle.msf.specs.declared.limit.Limit.{Limit}
+use Rattle.msf.specs.declared.to_slices.Mapped.{Mapped}
+use Rattle.msf.specs.declared.to_slices.Mapping.{Mapping}
 use Rattle.msf.specs.declared.to_bytes.Extracted.{Extracted}
+use Rattle.slice_store.specs.Promises.{MapsInto}
 
 -- what an answer says on paper tells it from every other answer
 pub record Told : Type 0 where
@@ -39,6 +43,7 @@ pub record SingleValued : Type 0 where
   pub stream-count : (f : File) (len : ℕ) → Only (Counting f len)
   pub map : (f : File) (len k : ℕ) (limit : Limit) (offsets sizes : List ℕ) → Only₃ (Maps f len k limit offsets sizes)
   pub extract : (f : File) (len k : ℕ) (limit : Limit) (out : List ℕ) → Only₂ (Extracts f len k limit out)
+  pub map-into : (f : File) (len k : ℕ) (limit : Limit) (store : List SourceSlice) → Only₂ (MapsInto f len k limit store)
 
 -- demand 2: an accepted extraction of length n is of a stream x found as stream k; its byte i is file byte
 -- page (i / P) * P + i mod P, where `page` is stream k's own entries in the directory; and past n nothing changed
@@ -58,6 +63,19 @@ pub record TheSlices : Type 0 where
   pub full : (f : File) (len k : ℕ) (limit : Limit) (room : ℕ) {x : Placed} → mapping f len k limit room ≡ ok x → Full (slicesIn f x)
   pub size : (f : File) (len k : ℕ) (limit : Limit) (room : ℕ) {x : Placed} → mapping f len k limit room ≡ ok x → total (slicesIn f x) ≡ x .size
   pub place : (f : File) (len k : ℕ) (limit : Limit) (room : ℕ) {x : Placed} → mapping f len k limit room ≡ ok x → (i : ℕ) → i < x .size → placeOf (slicesIn f x) i ≡ through (x .found .header .size) (ownPage f (x .found)) i
+
+-- the two forms of a mapping, two number stores and one slice store: with room for as many slices there is one answer, and
+-- where it is a mapping, entry i of the slice store is entry i of the number stores
+abbrev pub none : SourceSlice
+none = record { offset = 0; size = 0 }
+
+pub record Answered-alike (r r′ : Mapping) (offsets sizes : List ℕ) (store : List SourceSlice) : Type 0 where
+  pub answer : r ≡ r′
+  pub offset : (m : Mapped) → mappedIn r ≡ ok m → (i : ℕ) → i < m .slices → getD store i none .offset ≡ getD offsets i 0
+  pub size : (m : Mapped) → mappedIn r ≡ ok m → (i : ℕ) → i < m .slices → getD store i none .size ≡ getD sizes i 0
+
+pub record BothForms : Type 0 where
+  pub alike : (f : File) (len k : ℕ) (limit : Limit) (offsets sizes : List ℕ) (store : List SourceSlice) → length store ≡ min (length offsets) (length sizes) → (r r′ : Mapping) (o t : List ℕ) (s : List SourceSlice) → Maps f len k limit offsets sizes r o t → MapsInto f len k limit store r′ s → Answered-alike r r′ o t s
 
 -- need(b) is the least number of pages that hold b bytes; no word crosses a page
 pub record Pages-needed : Type 0 where
