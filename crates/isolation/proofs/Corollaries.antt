@@ -23,6 +23,7 @@ alike f g len k limit agree =
       stream-count = I .stream-count (λ i l. agree i (ListedBytes.mapping (Listed.counting l)));
       map = λ offsets sizes. I .map k limit offsets sizes (λ i l. agree i (ListedBytes.mapping l));
       extract = λ out. I .extract k limit out agree;
+      map-into = λ store. I .map-into k limit store (λ i l. agree i (ListedBytes.mapping l));
     }
 
 -- files that differ only where nothing is listed agree on the list

@@ -17,6 +17,7 @@ use Rattle.msf.specs.Promises.{mapped, lengthIn, Maps, Extracts}
 use Rattle.msf.specs.declared.limit.Limit.{Limit}
 use Rattle.msf.specs.declared.to_slices.Mapping.{Mapping}
 use Rattle.msf.specs.declared.to_bytes.Extracted.{Extracted}
+use Rattle.slice_store.specs.Promises.{MapsInto}
 use Rattle.container.proofs.Statements.{single-valued}
 use Rattle.isolation.specs.Listed.{ListedOpen, ListedCount, Listed, ListedBytes, Agree}
 use Rattle.isolation.specs.Isolation.{Isolation}
@@ -52,6 +53,13 @@ module _ (f g : File) (len : ℕ) where
           sizes-after = p .sizes-after ∙ sym (slices-same (λ (s : SourceSlice). s .size) room sizes);
         }
 
+    maps-into-as : (store : List SourceSlice) (r : Mapping) (s : List SourceSlice) → MapsInto g len k limit store r s → MapsInto f len k limit store r s
+    maps-into-as store r s p =
+        record {
+          answer = p .answer ∙ sym (mapped-same (length store));
+          after = p .after ∙ sym (written-same (slicesIn f) (slicesIn g) store (mapping-same f g len k agree limit (length store)) λ x m. mapped-slices f g len k agree limit (length store) m);
+        }
+
   module _ (k : ℕ) (limit : Limit) (agree : Agree (ListedBytes f len k limit) f g) where
     extracts-as : (out : List ℕ) (r : Extracted) (o : List ℕ) → Extracts g len k limit out r o → Extracts f len k limit out r o
     extracts-as out r o p =
@@ -70,4 +78,6 @@ isolation f g len =
           single-valued .map f len k limit offsets sizes r r′ o o′ t t′ p (maps-as f g len k limit agree offsets sizes r′ o′ t′ q);
       extract = λ k limit out agree r r′ o o′ p q.
           single-valued .extract f len k limit out r r′ o o′ p (extracts-as f g len k limit agree out r′ o′ q);
+      map-into = λ k limit store agree r r′ s s′ p q.
+          single-valued .map-into f len k limit store r r′ s s′ p (maps-into-as f g len k limit agree store r′ s′ q);
     }

@@ -12,10 +12,12 @@ use Rattle.directory.specs.Promises.{Counting}
 use Rattle.directory.specs.declared.Counted.{Counted}
 use Rattle.stream.specs.Stream.{ownPage, ownPages, found}
 use Rattle.stream.specs.declared.Found.{Found}
+use Rattle.slices.specs.declared.SourceSlice.{SourceSlice}
 use Rattle.msf.specs.Promises.{Maps, Extracts}
 use Rattle.msf.specs.declared.limit.Limit.{Limit}
 use Rattle.msf.specs.declared.to_slices.Mapping.{Mapping}
 use Rattle.msf.specs.declared.to_bytes.Extracted.{Extracted}
+use Rattle.slice_store.specs.Promises.{MapsInto}
 use Rattle.isolation.specs.Listed.{ListedOpen, ListedBytes}
 
 -- no operation tells the files apart when asked for stream k
@@ -24,6 +26,7 @@ pub record Alike (f g : File) (len k : ℕ) (limit : Limit) : Type 0 where
   pub stream-count : (r r′ : Counted) → Counting f len r → Counting g len r′ → r ≡ r′
   pub map : (offsets sizes : List ℕ) (r r′ : Mapping) (o o′ t t′ : List ℕ) → Maps f len k limit offsets sizes r o t → Maps g len k limit offsets sizes r′ o′ t′ → (r ≡ r′) × (o ≡ o′) × (t ≡ t′)
   pub extract : (out : List ℕ) (r r′ : Extracted) (o o′ : List ℕ) → Extracts f len k limit out r o → Extracts g len k limit out r′ o′ → (r ≡ r′) × (o ≡ o′)
+  pub map-into : (store : List SourceSlice) (r r′ : Mapping) (s s′ : List SourceSlice) → MapsInto f len k limit store r s → MapsInto g len k limit store r′ s′ → (r ≡ r′) × (s ≡ s′)
 
 -- the files differ at places of this kind alone
 abbrev pub DifferOnlyAt : (ℕ → Type 0) → File → File → Type 0
