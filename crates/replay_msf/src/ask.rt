@@ -27,6 +27,10 @@ const MAP_REFUSED: u64 = 16;
 const EXTRACTED: u64 = 17;
 
 const EXTRACT_REFUSED: u64 = 18;
+
+// No answer has this case: a record in which it stands differs.
+const PATHS_DIFFER: u64 = 99;
+
 // What entry 0 of a store begins as: no slice has such an offset or size.
 const OFFSETS: u64 = 7000000000000000000;
 
@@ -106,12 +110,29 @@ fn map_in_rooms(
     map(d, q, file, &mut offsets[..n], &mut sizes[..m])
 }
 
+// Asked by both paths, which must give one digest.
 fn map(d: Digest, q: Question, file: &[u8], offsets: &mut [u64], sizes: &mut [u64]) -> Digest {
-    clear_entries(offsets, OFFSETS);
-    clear_entries(sizes, SIZES);
     let stream = q.stream;
     let limit = q.limit;
-    let answered = match msf::map(file, stream, limit, offsets, sizes) {
+    clear_stores(offsets, sizes);
+    let by_numbers = msf::map(file, stream, limit, offsets, sizes);
+    let first = mapped(d, by_numbers, offsets, sizes);
+    clear_stores(offsets, sizes);
+    let by_slices = replay_slices::map(file, stream, limit, offsets, sizes);
+    let again = mapped(d, by_slices, offsets, sizes);
+    if first.agrees(again) {
+        return first;
+    }
+    first.plain(PATHS_DIFFER)
+}
+
+fn clear_stores(offsets: &mut [u64], sizes: &mut [u64]) {
+    clear_entries(offsets, OFFSETS);
+    clear_entries(sizes, SIZES);
+}
+
+fn mapped(d: Digest, mapping: Mapping, offsets: &[u64], sizes: &[u64]) -> Digest {
+    let answered = match mapping {
         Mapping::Mapped(m) => d.plain(MAPPED)
             .plain(m.slices as u64)
             .plain(m.length as u64),

@@ -7,7 +7,7 @@ use msf::Limit;
 use msf::Mapping;
 use msf::StreamNumber;
 use msf::judge;
-use slices::SourceSlice;
+pub use slices::SourceSlice;
 use slices::Walk;
 use slices::extend;
 ghost use mathlib.Core.Path.{_≡_};
