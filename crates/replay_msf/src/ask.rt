@@ -112,23 +112,46 @@ fn map_in_rooms(
 
 // Asked by both paths, which must give one digest.
 fn map(d: Digest, q: Question, file: &[u8], offsets: &mut [u64], sizes: &mut [u64]) -> Digest {
-    let stream = q.stream;
-    let limit = q.limit;
-    clear_stores(offsets, sizes);
-    let by_numbers = msf::map(file, stream, limit, offsets, sizes);
-    let first = mapped(d, by_numbers, offsets, sizes);
-    clear_stores(offsets, sizes);
-    let by_slices = replay_slices::map(file, stream, limit, offsets, sizes);
-    let again = mapped(d, by_slices, offsets, sizes);
-    if first.agrees(again) {
-        return first;
-    }
-    first.plain(PATHS_DIFFER)
+    let by_numbers = map_by_numbers(d, q, file, offsets, sizes);
+    let by_slices = map_by_slices(d, q, file, offsets, sizes);
+    both(by_numbers, by_slices)
 }
 
-fn clear_stores(offsets: &mut [u64], sizes: &mut [u64]) {
+fn map_by_numbers(
+    d: Digest,
+    q: Question,
+    file: &[u8],
+    offsets: &mut [u64],
+    sizes: &mut [u64],
+) -> Digest {
     clear_entries(offsets, OFFSETS);
     clear_entries(sizes, SIZES);
+    let stream = q.stream;
+    let limit = q.limit;
+    let mapping = msf::map(file, stream, limit, offsets, sizes);
+    mapped(d, mapping, offsets, sizes)
+}
+
+fn map_by_slices(
+    d: Digest,
+    q: Question,
+    file: &[u8],
+    offsets: &mut [u64],
+    sizes: &mut [u64],
+) -> Digest {
+    clear_entries(offsets, OFFSETS);
+    clear_entries(sizes, SIZES);
+    let stream = q.stream;
+    let limit = q.limit;
+    let mapping = replay_slices::map(file, stream, limit, offsets, sizes);
+    mapped(d, mapping, offsets, sizes)
+}
+
+fn both(by_numbers: Digest, by_slices: Digest) -> Digest {
+    if by_numbers.agrees(by_slices) {
+        return by_numbers;
+    }
+    by_numbers.plain(PATHS_DIFFER)
 }
 
 fn mapped(d: Digest, mapping: Mapping, offsets: &[u64], sizes: &[u64]) -> Digest {
