@@ -1,15 +1,13 @@
 -- Page after page the store holds the pieces of the pages so far (`walked`, `pieces` and their laws in crate slices), and after the
 -- last page they are the slices that the plan says.
-use mathlib.Core.Path.{_≡_, refl, sym, _∙_, ap}
-use mathlib.Core.Bool.{Bool, true, false, cond}
-use mathlib.Core.List.{List, map}
-use Prim.Native.Nat.{ℕ, zero, suc, _+_, _-_, _^_, _≤_, _<_}
+use mathlib.Core.Path.{_≡_, refl, ap}
+use mathlib.Core.Bool.{true}
+use mathlib.Core.List.{List}
+use Prim.Native.Nat.{ℕ, zero, suc, _+_, _-_, _≤_, _<_}
 use native.Mathlib.Omega.{arith}
 use native.Mathlib.Numerals.{add-one}
-use borrow.Author.Tests.{eq-eqb}
 use lib.ListN.{length, set}
 use lib.Seq.{sets, length-sets}
-use Rattle.outcome.specs.Store.{written}
 use Rattle.outcome.proofs.OutcomeLaws.{by-test}
 use Rattle.parse_buffer.specs.Bytes.{File}
 use Rattle.slices.specs.Inner.{streamPage, start, joins, extended}
@@ -17,8 +15,7 @@ use Rattle.slices.proofs.SliceLaws.{pieces}
 use Rattle.slices.proofs.WalkLaws.{walked, walk-near, walk-few, walk-some, all-pieces, store-more}
 use Rattle.slices.specs.declared.SourceSlice.{SourceSlice}
 use Rattle.slices.specs.declared.Walk.{Walk}
-use Rattle.msf.specs.Msf.{slicesIn, mapping}
-use Rattle.msf.specs.Inner.{slicesFor, planned, Plans}
+use Rattle.msf.specs.Inner.{Plans}
 use Rattle.msf.proofs.PlaceLaws.{written-slices}
 use Rattle.msf.specs.declared.limit.Limit.{Limit}
 use Rattle.msf.specs.declared.to_slices.Plan.{Plan}

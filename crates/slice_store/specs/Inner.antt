@@ -1,16 +1,13 @@
 -- What inner functions promise their callers.
 use mathlib.Core.Path.{_≡_}
-use Prim.Native.Nat.{ℕ, _+_, _-_, _^_, _≤_, _<_}
+use Prim.Native.Nat.{ℕ, _+_, _-_, _^_, _<_}
 use lib.ListN.{length}
 use Rattle.parse_buffer.specs.Bytes.{File}
-use Rattle.paged.specs.PageSize.{PageSize, need}
+use Rattle.paged.specs.PageSize.{PageSize}
 use Rattle.paged.specs.Checks.{wanted}
-use Rattle.slices.specs.Slices.{slicesOf, cut}
 use Rattle.slices.specs.Inner.{streamPage, start, extended, Near}
 use Rattle.slices.specs.declared.Walk.{Walk}
-use Rattle.msf.specs.Msf.{mapping}
-use Rattle.msf.specs.Inner.{planned, Plans}
-use Rattle.msf.specs.Promises.{mappedIn, mapped}
+use Rattle.msf.specs.Inner.{Plans}
 use Rattle.msf.specs.declared.limit.Limit.{Limit}
 use Rattle.msf.specs.declared.to_slices.Plan.{Plan}
 use Rattle.slice_store.specs.declared.Cursor.{Cursor}
