@@ -1,0 +1,125 @@
+//! The proved library's functions. A slice crosses as a pointer and a length.
+//!
+//! Nothing checks these declarations against `crates/trovespan/src/lib.rt`; the comparison with pdb calls each of them.
+
+mod c {
+    extern "C" {
+        pub fn trovespan_open(file: *const u8, file_len: usize, value: *mut u64, used: *mut u64) -> u32;
+        pub fn trovespan_stream_count(file: *const u8, file_len: usize, value: *mut u64) -> u32;
+        pub fn trovespan_map(
+            file: *const u8,
+            file_len: usize,
+            stream: u32,
+            limited: bool,
+            limit: usize,
+            offsets: *mut u64,
+            offsets_len: usize,
+            sizes: *mut u64,
+            sizes_len: usize,
+            value: *mut u64,
+            length: *mut u64,
+        ) -> u32;
+        pub fn trovespan_extract(
+            file: *const u8,
+            file_len: usize,
+            stream: u32,
+            limited: bool,
+            limit: usize,
+            out: *mut u8,
+            out_len: usize,
+            value: *mut u64,
+        ) -> u32;
+        pub fn trovespan_number(bytes: *const u8, bytes_len: usize, at: usize, value: *mut u64, next: *mut u64) -> u32;
+        pub fn trovespan_step(
+            bytes: *const u8,
+            bytes_len: usize,
+            at: usize,
+            value: *mut u64,
+            first: *mut i64,
+            second: *mut i64,
+            next: *mut u64,
+        ) -> u32;
+        pub fn trovespan_decode(
+            bytes: *const u8,
+            bytes_len: usize,
+            store: *mut i64,
+            store_len: usize,
+            value: *mut u64,
+            place: *mut u64,
+        ) -> u32;
+    }
+}
+
+// Each function below calls its fellow above with pointers and lengths of live slices, and with numbers of its own. That
+// is all the callee asks: it is proved for any contents, and keeps no pointer.
+
+pub fn open(file: &[u8]) -> (u32, u64, u64) {
+    let (mut value, mut used) = (0, 0);
+    let number = unsafe { c::trovespan_open(file.as_ptr(), file.len(), &mut value, &mut used) };
+    (number, value, used)
+}
+
+pub fn stream_count(file: &[u8]) -> (u32, u64) {
+    let mut value = 0;
+    let number = unsafe { c::trovespan_stream_count(file.as_ptr(), file.len(), &mut value) };
+    (number, value)
+}
+
+pub fn map(file: &[u8], stream: u32, limit: Option<usize>, offsets: &mut [u64], sizes: &mut [u64]) -> (u32, u64, u64) {
+    let (mut value, mut length) = (0, 0);
+    let number = unsafe {
+        c::trovespan_map(
+            file.as_ptr(),
+            file.len(),
+            stream,
+            limit.is_some(),
+            limit.unwrap_or(0),
+            offsets.as_mut_ptr(),
+            offsets.len(),
+            sizes.as_mut_ptr(),
+            sizes.len(),
+            &mut value,
+            &mut length,
+        )
+    };
+    (number, value, length)
+}
+
+pub fn extract(file: &[u8], stream: u32, limit: Option<usize>, out: &mut [u8]) -> (u32, u64) {
+    let mut value = 0;
+    let number = unsafe {
+        c::trovespan_extract(
+            file.as_ptr(),
+            file.len(),
+            stream,
+            limit.is_some(),
+            limit.unwrap_or(0),
+            out.as_mut_ptr(),
+            out.len(),
+            &mut value,
+        )
+    };
+    (number, value)
+}
+
+pub fn number(bytes: &[u8], at: usize) -> (u32, u64, u64) {
+    let (mut value, mut next) = (0, 0);
+    let number = unsafe { c::trovespan_number(bytes.as_ptr(), bytes.len(), at, &mut value, &mut next) };
+    (number, value, next)
+}
+
+pub fn step(bytes: &[u8], at: usize) -> (u32, u64, i64, i64, u64) {
+    let (mut value, mut first, mut second, mut next) = (0, 0, 0, 0);
+    let number = unsafe {
+        c::trovespan_step(bytes.as_ptr(), bytes.len(), at, &mut value, &mut first, &mut second, &mut next)
+    };
+    (number, value, first, second, next)
+}
+
+pub fn decode(bytes: &[u8], store: &mut [i64]) -> (u32, u64, u64) {
+    let (mut value, mut place) = (0, 0);
+    let number = unsafe {
+        c::trovespan_decode(bytes.as_ptr(), bytes.len(), store.as_mut_ptr(), store.len(), &mut value, &mut place)
+    };
+    (number, value, place)
+}
