@@ -2,8 +2,8 @@
 // pointer and a length).
 //
 // Each returns 0 where the operation accepts, else the refusal's number in document 01's table, and writes what else there
-// is to tell through the numbers that it is lent; where it refuses, `value` is the refusal's value. A number that has
-// nothing to tell is 0. Nothing is asked of a caller but that what is lent is there and does not overlap.
+// is to tell to the numbers that it is lent; where it refuses, `value` is the refusal's value. A number with nothing to
+// tell is 0. Nothing is asked of a caller but that what is lent is there and does not overlap.
 use annotations::Decoded;
 use annotations::Step;
 use annotations::Uncompressed;
@@ -16,15 +16,28 @@ use msf::Limit;
 use msf::Mapping;
 use msf::Opened;
 use msf::StreamNumber;
+ghost use mathlib.Core.Path.{_≡_};
+ghost use lib.ListN.{length};
+ghost use Rattle.parse_buffer.specs.Bytes.{byteAt};
+ghost use Rattle.trovespan.specs.Crossing.{limitOf};
+ghost use Rattle.trovespan.specs.Promises.{Opens, Counts, Maps, Extracts, Numbers, Steps, Decodes};
+
+// What is returned where nothing is refused; no refusal has this number.
+const ACCEPTED: u32 = 0;
+
+// The refusal of a store that is too small.
+const NO_ROOM: u32 = 10;
 
 // `value` is P, `used` is pages_used.
 #[no_mangle]
-pub extern "C" fn trovespan_open(file: &[u8], value: &mut u64, used: &mut u64) -> u32 {
+pub extern "C" fn trovespan_open(file: &[u8], value: &mut u64, used: &mut u64) -> u32
+    ensures { λ r. ⌜ Opens (byteAt (now (file .entry))) (length (now (file .entry))) r (now (value .exit)) (now (used .exit)) ⌝ }
+{
     match msf::open(file) {
         Opened::Container(c) => {
             *value = c.size as u64;
             *used = c.used as u64;
-            0
+            ACCEPTED
         }
         Opened::Refused(why) => {
             *value = why.value();
@@ -36,11 +49,13 @@ pub extern "C" fn trovespan_open(file: &[u8], value: &mut u64, used: &mut u64) -
 
 // `value` is how many streams there are.
 #[no_mangle]
-pub extern "C" fn trovespan_stream_count(file: &[u8], value: &mut u64) -> u32 {
+pub extern "C" fn trovespan_stream_count(file: &[u8], value: &mut u64) -> u32
+    ensures { λ r. ⌜ Counts (byteAt (now (file .entry))) (length (now (file .entry))) r (now (value .exit)) ⌝ }
+{
     match msf::stream_count(file) {
         Counted::Streams(n) => {
             *value = n as u64;
-            0
+            ACCEPTED
         }
         Counted::Refused(why) => {
             *value = why.value();
@@ -49,7 +64,7 @@ pub extern "C" fn trovespan_stream_count(file: &[u8], value: &mut u64) -> u32 {
     }
 }
 
-// `value` is how many slices there are, `length` how many bytes they have. `limit` counts only where `limited`.
+// `value` is how many slices there are, `total` how many bytes they have. `limit` counts only where `limited`.
 #[no_mangle]
 pub extern "C" fn trovespan_map(
     file: &[u8],
@@ -59,8 +74,10 @@ pub extern "C" fn trovespan_map(
     offsets: &mut [u64],
     sizes: &mut [u64],
     value: &mut u64,
-    length: &mut u64,
-) -> u32 {
+    total: &mut u64,
+) -> u32
+    ensures { λ r. ⌜ Maps (byteAt (now (file .entry))) (length (now (file .entry))) stream (limitOf limited limit) (now (offsets .entry)) (now (sizes .entry)) r (now (value .exit)) (now (total .exit)) (now (offsets .exit)) (now (sizes .exit)) ⌝ }
+{
     match msf::map(
         file,
         StreamNumber(stream),
@@ -70,12 +87,12 @@ pub extern "C" fn trovespan_map(
     ) {
         Mapping::Mapped(m) => {
             *value = m.slices as u64;
-            *length = m.length as u64;
-            0
+            *total = m.length as u64;
+            ACCEPTED
         }
         Mapping::Refused(why) => {
             *value = why.value();
-            *length = 0;
+            *total = 0;
             why.number()
         }
     }
@@ -90,11 +107,13 @@ pub extern "C" fn trovespan_extract(
     limit: usize,
     out: &mut [u8],
     value: &mut u64,
-) -> u32 {
+) -> u32
+    ensures { λ r. ⌜ Extracts (byteAt (now (file .entry))) (length (now (file .entry))) stream (limitOf limited limit) (now (out .entry)) r (now (value .exit)) (now (out .exit)) ⌝ }
+{
     match msf::extract(file, StreamNumber(stream), limit_of(limited, limit), out) {
         Extracted::Length(n) => {
             *value = n as u64;
-            0
+            ACCEPTED
         }
         Extracted::Refused(why) => {
             *value = why.value();
@@ -105,17 +124,14 @@ pub extern "C" fn trovespan_extract(
 
 // `value` is the number, `next` the place after it, or after its refusal.
 #[no_mangle]
-pub extern "C" fn trovespan_number(
-    bytes: &[u8],
-    at: usize,
-    value: &mut u64,
-    next: &mut u64,
-) -> u32 {
+pub extern "C" fn trovespan_number(bytes: &[u8], at: usize, value: &mut u64, next: &mut u64) -> u32
+    ensures { λ r. ⌜ Numbers (now (bytes .entry)) at r (now (value .exit)) (now (next .exit)) ⌝ }
+{
     match uncompress_next(bytes, at) {
         Uncompressed::Value(n) => {
             *value = n.value as u64;
             *next = n.next as u64;
-            0
+            ACCEPTED
         }
         Uncompressed::Refused(why, place) => {
             *value = why.value();
@@ -135,7 +151,9 @@ pub extern "C" fn trovespan_step(
     first: &mut i64,
     second: &mut i64,
     next: &mut u64,
-) -> u32 {
+) -> u32
+    ensures { λ r. ⌜ Steps (now (bytes .entry)) at r (now (value .exit)) (now (first .exit)) (now (second .exit)) (now (next .exit)) ⌝ }
+{
     match step_at(bytes, at) {
         Step::Annotation(a) => {
             let annotation = a.annotation;
@@ -146,14 +164,14 @@ pub extern "C" fn trovespan_step(
             *first = left;
             *second = right;
             *next = a.next as u64;
-            0
+            ACCEPTED
         }
         Step::End(place) => {
             *value = 0;
             *first = 0;
             *second = 0;
             *next = place as u64;
-            0
+            ACCEPTED
         }
         Step::Refused(why, place) => {
             *value = why.value();
@@ -172,12 +190,14 @@ pub extern "C" fn trovespan_decode(
     store: &mut [i64],
     value: &mut u64,
     place: &mut u64,
-) -> u32 {
+) -> u32
+    ensures { λ r. ⌜ Decodes (now (bytes .entry)) (now (store .entry)) r (now (value .exit)) (now (place .exit)) (now (store .exit)) ⌝ }
+{
     match decode_all(bytes, store) {
         Decoded::Count(n) => {
             *value = n as u64;
             *place = 0;
-            0
+            ACCEPTED
         }
         Decoded::Refused(why, after) => {
             *value = why.value();
@@ -187,12 +207,14 @@ pub extern "C" fn trovespan_decode(
         Decoded::NoRoom(needed) => {
             *value = needed as u64;
             *place = 0;
-            10
+            NO_ROOM
         }
     }
 }
 
-fn limit_of(limited: bool, limit: usize) -> Limit {
+fn limit_of(limited: bool, limit: usize) -> Limit
+    ensures { λ r. ⌜ r ≡ limitOf limited limit ⌝ }
+{
     if limited {
         return Limit::AtMost(limit);
     }

@@ -1,0 +1,86 @@
+-- The answers about binary annotations as they cross: one law for each kind of answer.
+use mathlib.Core.Path.{_≡_, refl, sym, _∙_, ap}
+use mathlib.Core.List.{List}
+use mathlib.Core.Option.{some}
+use Prim.Native.Nat.{ℕ}
+use lib.IntN.{ℤ, pos}
+use Rattle.outcome.specs.Outcome.{ok, refused, raise}
+use Rattle.annotations.specs.Refusal.{Stop, stop, refusalIn}
+use Rattle.annotations.specs.Annotation.{tripleIn}
+use Rattle.annotations.specs.Step.{Stepped, annotation, end}
+use Rattle.annotations.specs.Decode.{DecodeStop, noRoom}
+use Rattle.annotations.specs.Promises.{uncompressedIn, stepIn, decodedIn, Uncompressing, Stepping, Decoding}
+use Rattle.annotations.specs.declared.refusal.Refusal.{Refusal}
+use Rattle.annotations.specs.declared.annotation.Triple.{Triple}
+use Rattle.annotations.specs.declared.annotation.BinaryAnnotation.{BinaryAnnotation}
+use Rattle.annotations.specs.declared.number.Number.{Number}
+use Rattle.annotations.specs.declared.number.Uncompressed.{Uncompressed}
+use Rattle.annotations.specs.declared.number.Uncompressed.the-variants as uncompressed
+use Rattle.annotations.specs.declared.step.Annotated.{Annotated}
+use Rattle.annotations.specs.declared.step.Step.{Step}
+use Rattle.annotations.specs.declared.step.Step.the-variants as step
+use Rattle.annotations.specs.declared.decode.Decoded.{Decoded}
+use Rattle.annotations.specs.declared.decode.Decoded.the-variants as decoded
+use Rattle.trovespan.specs.Crossing.{told, opcodeOf, firstOf, secondOf, nextOf, placeOr0}
+use Rattle.trovespan.specs.Promises.{Numbers, Steps, Decodes}
+
+-- ---- `trovespan_number`
+module _ {s : List ℕ} {at : ℕ} {r : Uncompressed} (p : Uncompressing s at r) where
+  pub numbers-value : {n : Number} → r ≡ uncompressed.Value n → Numbers s at 0 (n .value) (n .next)
+  unfolding told raise uncompressedIn
+  numbers-value {n} e =
+      let k : _ ≡ ok n = sym (p .answer) ∙ ap uncompressedIn e in
+      record { answer = record { number = rw k; value = rw k }; next-told = rw k }
+
+  pub numbers-refused : {why : Refusal} {place n v : ℕ} → r ≡ uncompressed.Refused why place → n ≡ refusalIn why .number → v ≡ refusalIn why .value → Numbers s at n v place
+  unfolding told raise uncompressedIn
+  numbers-refused {why} {place} e n v =
+      let k : _ ≡ refused (stop why place) = sym (p .answer) ∙ ap uncompressedIn e in
+      record { answer = record { number = rw k n; value = rw k v }; next-told = rw k }
+
+pub ruleset number-cases = (numbers-value, numbers-refused)
+
+-- ---- `trovespan_step`
+module _ {s : List ℕ} {at : ℕ} {r : Step} (p : Stepping s at r) where
+  pub steps-annotation : {a : Annotated} {t : Triple} {x y : ℤ} → r ≡ step.Annotation a → t ≡ tripleIn (a .annotation) → x ≡ t .first → y ≡ t .second → Steps s at 0 (t .opcode) x y (a .next)
+  unfolding told raise stepIn opcodeOf firstOf secondOf nextOf
+  steps-annotation {a} {t} e is x y =
+      let k : _ ≡ ok (annotation (record { triple = t; next = a .next })) = sym (p .answer) ∙ ap stepIn e ∙ rw is in
+      record { answer = record { number = rw k; value = rw k }; first-told = rw k x; second-told = rw k y; next-told = rw k }
+
+  pub steps-end : {place : ℕ} → r ≡ step.End place → Steps s at 0 0 (pos 0) (pos 0) place
+  unfolding told raise stepIn opcodeOf firstOf secondOf nextOf
+  steps-end {place} e =
+      let k : _ ≡ ok (end place) = sym (p .answer) ∙ ap stepIn e in
+      record { answer = record { number = rw k; value = rw k }; first-told = rw k; second-told = rw k; next-told = rw k }
+
+  pub steps-refused : {why : Refusal} {place n v : ℕ} → r ≡ step.Refused why place → n ≡ refusalIn why .number → v ≡ refusalIn why .value → Steps s at n v (pos 0) (pos 0) place
+  unfolding told raise stepIn
+  steps-refused {why} {place} e n v =
+      let k : _ ≡ refused (stop why place) = sym (p .answer) ∙ ap stepIn e in
+      record { answer = record { number = rw k n; value = rw k v }; first-told = rw k; second-told = rw k; next-told = rw k }
+
+pub ruleset step-cases = (steps-annotation, steps-end, steps-refused)
+
+-- ---- `trovespan_decode`
+module _ {s : List ℕ} {store store′ : List ℤ} {r : Decoded} (p : Decoding s store r store′) where
+  pub decodes-count : {n : ℕ} → r ≡ decoded.Count n → Decodes s store 0 n 0 store′
+  unfolding told raise decodedIn
+  decodes-count {n} e =
+      let k : _ ≡ ok n = sym (p .answer) ∙ ap decodedIn e in
+      record { answer = record { number = rw k; value = rw k }; place-told = rw k; after = p .after }
+
+  pub decodes-refused : {why : Refusal} {place n v : ℕ} → r ≡ decoded.Refused why place → n ≡ refusalIn why .number → v ≡ refusalIn why .value → Decodes s store n v place store′
+  unfolding told raise decodedIn placeOr0
+  decodes-refused {why} {place} e n v =
+      let w : DecodeStop = record { refusal = refusalIn why; place = some place } in
+      let k : _ ≡ refused w = sym (p .answer) ∙ ap decodedIn e in
+      record { answer = record { number = rw k n; value = rw k v }; place-told = rw k; after = p .after }
+
+  pub decodes-no-room : {needed : ℕ} → r ≡ decoded.NoRoom needed → Decodes s store 10 needed 0 store′
+  unfolding told raise decodedIn placeOr0
+  decodes-no-room {needed} e =
+      let k : _ ≡ refused (noRoom needed) = sym (p .answer) ∙ ap decodedIn e in
+      record { answer = record { number = rw k; value = rw k }; place-told = rw k; after = p .after }
+
+pub ruleset decode-cases = (decodes-count, decodes-refused, decodes-no-room)

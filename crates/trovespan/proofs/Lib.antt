@@ -1,0 +1,3 @@
+mod ContainerLaws
+mod AnnotationLaws
+pub mod Statements

@@ -1,0 +1,77 @@
+-- The statements on the exported functions, each proved under the name of its record.
+use mathlib.Core.Path.{_≡_, sym, _∙_}
+use Prim.Native.Nat.{ℕ, _<_}
+use native.Mathlib.Omega.{arith}
+use Rattle.paged.specs.Refusal as container
+use Rattle.paged.specs.declared.refusal.Refusal as why-container
+use Rattle.paged.specs.declared.refusal.Refusal.the-variants as container-variants
+use Rattle.annotations.specs.Refusal as annotations
+use Rattle.annotations.specs.declared.refusal.Refusal as why-annotations
+use Rattle.annotations.specs.declared.refusal.Refusal.the-variants as annotations-variants
+use Rattle.annotations.specs.Annotation.{tripleIn}
+use Rattle.annotations.specs.declared.annotation.BinaryAnnotation.{BinaryAnnotation}
+use Rattle.annotations.specs.declared.annotation.BinaryAnnotation.the-variants as annotation
+use Rattle.trovespan.specs.Statements.{SingleValued, Apart}
+
+-- two things that are said to be one third are equal
+same : {A : Type 0} {x y z : A} → x ≡ z → y ≡ z → x ≡ y
+same e g = e ∙ sym g
+
+pub single-valued : SingleValued
+single-valued =
+    record {
+      opening = λ f len a b p q i.
+          (same (p .answer .number) (q .answer .number) i, same (p .answer .value) (q .answer .value) i, same (p .used-told) (q .used-told) i);
+      stream-count = λ f len a b p q i.
+          (same (p .answer .number) (q .answer .number) i, same (p .answer .value) (q .answer .value) i);
+      map = λ f len k limit os ss a b p q i.
+          (same (p .answer .number) (q .answer .number) i, same (p .answer .value) (q .answer .value) i, same (p .length-told) (q .length-told) i, same (p .offsets-after) (q .offsets-after) i, same (p .sizes-after) (q .sizes-after) i);
+      extract = λ f len k limit out a b p q i.
+          (same (p .answer .number) (q .answer .number) i, same (p .answer .value) (q .answer .value) i, same (p .after) (q .after) i);
+      number = λ s at a b p q i.
+          (same (p .answer .number) (q .answer .number) i, same (p .answer .value) (q .answer .value) i, same (p .next-told) (q .next-told) i);
+      step = λ s at a b p q i.
+          (same (p .answer .number) (q .answer .number) i, same (p .answer .value) (q .answer .value) i, same (p .first-told) (q .first-told) i, same (p .second-told) (q .second-told) i, same (p .next-told) (q .next-told) i);
+      decode = λ s store a b p q i.
+          (same (p .answer .number) (q .answer .number) i, same (p .answer .value) (q .answer .value) i, same (p .place-told) (q .place-told) i, same (p .after) (q .after) i);
+    }
+
+-- ---- by each case
+container-apart : (why : why-container.Refusal) → 0 < container.refusalIn why .number
+container-apart container-variants.UnrecognizedFileFormat = omega arith
+container-apart container-variants.UnimplementedFeature = omega arith
+container-apart (container-variants.InvalidPageSize size) = omega arith
+container-apart (container-variants.PageReferenceOutOfRange page) = omega arith
+container-apart (container-variants.StreamNotFound stream) = omega arith
+container-apart container-variants.FileEnds = omega arith
+container-apart container-variants.ShortData = omega arith
+container-apart (container-variants.NoRoom needed) = omega arith
+
+annotations-apart : (why : why-annotations.Refusal) → (0 < annotations.refusalIn why .number) × (annotations.refusalIn why .number < 10)
+annotations-apart annotations-variants.ShortData = (omega arith, omega arith)
+annotations-apart annotations-variants.InvalidCompressedAnnotation = (omega arith, omega arith)
+annotations-apart (annotations-variants.UnknownBinaryAnnotation opcode) = (omega arith, omega arith)
+
+opcode-apart : (a : BinaryAnnotation) → 0 < tripleIn a .opcode
+opcode-apart (annotation.CodeOffset v) = omega arith
+opcode-apart (annotation.ChangeCodeOffsetBase v) = omega arith
+opcode-apart (annotation.ChangeCodeOffset v) = omega arith
+opcode-apart (annotation.ChangeCodeLength v) = omega arith
+opcode-apart (annotation.ChangeFile v) = omega arith
+opcode-apart (annotation.ChangeLineOffset z) = omega arith
+opcode-apart (annotation.ChangeLineEndDelta v) = omega arith
+opcode-apart (annotation.ChangeRangeKind v) = omega arith
+opcode-apart (annotation.ChangeColumnStart v) = omega arith
+opcode-apart (annotation.ChangeColumnEndDelta z) = omega arith
+opcode-apart (annotation.ChangeCodeOffsetAndLineOffset v z) = omega arith
+opcode-apart (annotation.ChangeCodeLengthAndCodeOffset v w) = omega arith
+opcode-apart (annotation.ChangeColumnEnd v) = omega arith
+
+pub apart : Apart
+apart =
+    record {
+      container-refusal = container-apart;
+      annotations-refusal = λ why. annotations-apart why .0;
+      opcode = opcode-apart;
+      placed = λ why. annotations-apart why .1;
+    }

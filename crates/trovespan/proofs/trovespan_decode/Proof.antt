@@ -1,0 +1,59 @@
+-- One law of `AnnotationLaws` for each way out.
+-- Assumes nothing.
+use borrow.Author.Needs.{needs}
+use Rattle.trovespan.proofs.AnnotationLaws.{decode-cases}
+use Rattle.trovespan.proofs.trovespan_decode.Statement.{statement}
+use Rattle.trovespan.proofs.trovespan_decode.Tie as tie
+
+decode-all-requires : tie.Need-decode-all-requires
+decode-all-requires c κs = search needs
+
+enum-known-n : tie.Need-enum-known-n
+enum-known-n c = search needs
+
+enum-known-why : tie.Need-enum-known-why
+enum-known-why c = search needs
+
+value-requires : tie.Need-value-requires
+value-requires c κs = search needs
+
+number-requires : tie.Need-number-requires
+number-requires c κs = search needs
+
+enum-known-needed : tie.Need-enum-known-needed
+enum-known-needed c = search needs
+
+same-length : tie.Need-same-length
+same-length c = search needs
+
+returns : tie.Need-returns
+returns c = search decode-cases
+
+same-length-2 : tie.Need-same-length-2
+same-length-2 c = search needs
+
+returns-2 : tie.Need-returns-2
+returns-2 c = search decode-cases
+
+same-length-3 : tie.Need-same-length-3
+same-length-3 c = search needs
+
+returns-3 : tie.Need-returns-3
+returns-3 c = search decode-cases
+
+pub trovespan-decode-spec : {M : Type 1} → statement M
+trovespan-decode-spec =
+    tie.close
+    (tie.spec
+    decode-all-requires
+    enum-known-n
+    enum-known-why
+    value-requires
+    number-requires
+    enum-known-needed
+    same-length
+    returns
+    same-length-2
+    returns-2
+    same-length-3
+    returns-3)

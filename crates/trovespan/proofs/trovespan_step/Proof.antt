@@ -1,0 +1,56 @@
+-- One law of `AnnotationLaws` for each way out. A signed number that was stored is read back as it was (`toZ-ofZ`).
+-- Assumes nothing.
+use borrow.Author.Needs.{needs}
+use mir.Facts.{toZ-ofZ}
+use Rattle.trovespan.proofs.AnnotationLaws.{step-cases}
+use Rattle.trovespan.proofs.trovespan_step.Statement.{statement}
+use Rattle.trovespan.proofs.trovespan_step.Tie as tie
+
+step-at-requires : tie.Need-step-at-requires
+step-at-requires c κs = search needs
+
+enum-known-a : tie.Need-enum-known-a
+enum-known-a c = search needs
+
+triple-requires : tie.Need-triple-requires
+triple-requires c κs = search needs
+
+cast-value : tie.Need-cast-value
+cast-value c = search needs
+
+enum-known-place : tie.Need-enum-known-place
+enum-known-place c = search needs
+
+enum-known-why : tie.Need-enum-known-why
+enum-known-why c = search needs
+
+value-requires : tie.Need-value-requires
+value-requires c κs = search needs
+
+number-requires : tie.Need-number-requires
+number-requires c κs = search needs
+
+returns : tie.Need-returns
+returns c = search (step-cases, toZ-ofZ)
+
+returns-2 : tie.Need-returns-2
+returns-2 c = search step-cases
+
+returns-3 : tie.Need-returns-3
+returns-3 c = search step-cases
+
+pub trovespan-step-spec : {M : Type 1} → statement M
+trovespan-step-spec =
+    tie.close
+    (tie.spec
+    step-at-requires
+    enum-known-a
+    triple-requires
+    cast-value
+    enum-known-place
+    enum-known-why
+    value-requires
+    number-requires
+    returns
+    returns-2
+    returns-3)

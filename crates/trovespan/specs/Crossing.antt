@@ -1,0 +1,48 @@
+-- How answers cross to Rust and C: as numbers.
+use mathlib.Core.Path.{_≡_}
+use mathlib.Core.Bool.{Bool, cond}
+use mathlib.Core.Option.{Option, none, some}
+use Prim.Native.Nat.{ℕ}
+use lib.IntN.{ℤ, pos}
+use Rattle.outcome.specs.Outcome.{Outcome, ok, refused}
+use Rattle.outcome.specs.Refusal as paper
+use Rattle.annotations.specs.Step.{Stepped, annotation, end}
+use Rattle.msf.specs.declared.limit.Limit.{Limit}
+use Rattle.msf.specs.declared.limit.Limit.the-variants.{None, AtMost}
+
+-- what is told of an answer: one thing of a value, another of a refusal
+unfoldable pub told : {E A B : Type 0} → (A → B) → (E → B) → Outcome E A → B
+told of why (ok a) = of a
+told of why (refused e) = why e
+
+-- the number that is returned, and the first that is lent: 0 and a number of the value, or the refusal's number and value
+-- in document 01's table
+pub record Tells {A : Type 0} (o : Outcome paper.Refusal A) (of : A → ℕ) (r v : ℕ) : Type 0 where
+  pub number : r ≡ told (λ _. 0) (λ (why : paper.Refusal). why .number) o
+  pub value : v ≡ told of (λ (why : paper.Refusal). why .value) o
+
+-- a limit crosses as whether there is one, and which
+abbrev pub limitOf : Bool → ℕ → Limit
+limitOf limited n = cond limited (AtMost n) None
+
+-- ---- a step that is not refused: the end crosses as opcode 0, which no annotation has
+unfoldable pub opcodeOf : Stepped → ℕ
+opcodeOf (annotation x) = x .triple .opcode
+opcodeOf (end place) = 0
+
+unfoldable pub firstOf : Stepped → ℤ
+firstOf (annotation x) = x .triple .first
+firstOf (end place) = pos 0
+
+unfoldable pub secondOf : Stepped → ℤ
+secondOf (annotation x) = x .triple .second
+secondOf (end place) = pos 0
+
+unfoldable pub nextOf : Stepped → ℕ
+nextOf (annotation x) = x .next
+nextOf (end place) = place
+
+-- ---- the place of a refusal of decoding; refusal 10 alone has none
+unfoldable pub placeOr0 : Option ℕ → ℕ
+placeOr0 none = 0
+placeOr0 (some place) = place

@@ -1,0 +1,3 @@
+pub mod Crossing
+pub mod Promises
+pub mod Statements

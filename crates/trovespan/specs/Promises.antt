@@ -1,0 +1,57 @@
+-- The promises of the exported functions: each number that crosses, and each lent store at exit.
+use mathlib.Core.Path.{_≡_}
+use mathlib.Core.List.{List, map}
+use Prim.Native.Nat.{ℕ, min}
+use lib.ListN.{length}
+use lib.IntN.{ℤ, pos}
+use Rattle.outcome.specs.Outcome.{Outcome, raise}
+use Rattle.outcome.specs.Store.{written}
+use Rattle.parse_buffer.specs.Bytes.{File}
+use Rattle.header.specs.Promises.{opening}
+use Rattle.header.specs.declared.Container.{Container}
+use Rattle.directory.specs.Directory.{streamCount}
+use Rattle.slices.specs.declared.SourceSlice.{SourceSlice}
+use Rattle.msf.specs.Msf.{slicesIn, bytesIn, mapping, extraction}
+use Rattle.msf.specs.Promises.{mapped, lengthIn}
+use Rattle.msf.specs.declared.limit.Limit.{Limit}
+use Rattle.msf.specs.declared.to_slices.Mapped.{Mapped}
+use Rattle.annotations.specs.Refusal.{Stop}
+use Rattle.annotations.specs.Number.{numberAt}
+use Rattle.annotations.specs.Step.{stepAt}
+use Rattle.annotations.specs.Decode.{DecodeStop, entries, decodeAll, decoding}
+use Rattle.annotations.specs.declared.number.Number.{Number}
+use Rattle.trovespan.specs.Crossing.{told, Tells, opcodeOf, firstOf, secondOf, nextOf, placeOr0}
+
+-- ---- the container. A number that a refusal has nothing to tell by is 0
+pub record Opens (f : File) (len r value used : ℕ) : Type 0 where
+  pub answer : Tells (opening f len) (λ (c : Container). c .size) r value
+  pub used-told : used ≡ told (λ (c : Container). c .used) (λ _. 0) (opening f len)
+
+pub record Counts (f : File) (len r value : ℕ) : Type 0 where
+  pub answer : Tells (streamCount f len) (λ n. n) r value
+
+pub record Maps (f : File) (len k : ℕ) (limit : Limit) (offsets sizes : List ℕ) (r value total : ℕ) (offsets′ sizes′ : List ℕ) : Type 0 where
+  pub answer : Tells (mapped f (mapping f len k limit (min (length offsets) (length sizes)))) (λ (m : Mapped). m .slices) r value
+  pub length-told : total ≡ told (λ (m : Mapped). m .length) (λ _. 0) (mapped f (mapping f len k limit (min (length offsets) (length sizes))))
+  pub offsets-after : offsets′ ≡ written (mapping f len k limit (min (length offsets) (length sizes))) (λ x. map (λ (s : SourceSlice). s .offset) (slicesIn f x)) offsets
+  pub sizes-after : sizes′ ≡ written (mapping f len k limit (min (length offsets) (length sizes))) (λ x. map (λ (s : SourceSlice). s .size) (slicesIn f x)) sizes
+
+pub record Extracts (f : File) (len k : ℕ) (limit : Limit) (out : List ℕ) (r value : ℕ) (out′ : List ℕ) : Type 0 where
+  pub answer : Tells (lengthIn (extraction f len k limit (length out))) (λ n. n) r value
+  pub after : out′ ≡ written (extraction f len k limit (length out)) (bytesIn f) out
+
+-- ---- binary annotations: refusals with the place after them
+pub record Numbers (s : List ℕ) (at r value next : ℕ) : Type 0 where
+  pub answer : Tells (raise (λ (x : Stop). x .refusal) (numberAt s at)) (λ (n : Number). n .value) r value
+  pub next-told : next ≡ told (λ (n : Number). n .next) (λ (x : Stop). x .place) (numberAt s at)
+
+pub record Steps (s : List ℕ) (at r value : ℕ) (first second : ℤ) (next : ℕ) : Type 0 where
+  pub answer : Tells (raise (λ (x : Stop). x .refusal) (stepAt s at)) opcodeOf r value
+  pub first-told : first ≡ told firstOf (λ (_ : Stop). pos 0) (stepAt s at)
+  pub second-told : second ≡ told secondOf (λ (_ : Stop). pos 0) (stepAt s at)
+  pub next-told : next ≡ told nextOf (λ (x : Stop). x .place) (stepAt s at)
+
+pub record Decodes (s : List ℕ) (store : List ℤ) (r value place : ℕ) (store′ : List ℤ) : Type 0 where
+  pub answer : Tells (raise (λ (x : DecodeStop). x .refusal) (decoding s (length store))) (λ n. n) r value
+  pub place-told : place ≡ told (λ _. 0) (λ (x : DecodeStop). placeOr0 (x .place)) (decoding s (length store))
+  pub after : store′ ≡ written (decoding s (length store)) (λ _. entries (decodeAll s .found)) store

@@ -1,0 +1,32 @@
+-- What holds of the exported functions beyond their promises. proofs/Statements.antt proves each record.
+use mathlib.Core.List.{List}
+use Prim.Native.Nat.{ℕ, _<_}
+use lib.IntN.{ℤ}
+use Rattle.outcome.specs.Only.{Only}
+use Rattle.parse_buffer.specs.Bytes.{File}
+use Rattle.paged.specs.Refusal as container
+use Rattle.paged.specs.declared.refusal.Refusal as why-container
+use Rattle.annotations.specs.Refusal as annotations
+use Rattle.annotations.specs.declared.refusal.Refusal as why-annotations
+use Rattle.annotations.specs.Annotation.{tripleIn}
+use Rattle.annotations.specs.declared.annotation.BinaryAnnotation.{BinaryAnnotation}
+use Rattle.msf.specs.declared.limit.Limit.{Limit}
+use Rattle.trovespan.specs.Promises.{Opens, Counts, Maps, Extracts, Numbers, Steps, Decodes}
+
+-- no other numbers, and no other stores, satisfy a promise. (All that a function gives stands in one tuple.)
+pub record SingleValued : Type 0 where
+  pub opening : (f : File) (len : ℕ) → Only (λ (o : ℕ × ℕ × ℕ). Opens f len (o .0) (o .1) (o .2))
+  pub stream-count : (f : File) (len : ℕ) → Only (λ (o : ℕ × ℕ). Counts f len (o .0) (o .1))
+  pub map : (f : File) (len k : ℕ) (limit : Limit) (offsets sizes : List ℕ) → Only (λ (o : ℕ × ℕ × ℕ × List ℕ × List ℕ). Maps f len k limit offsets sizes (o .0) (o .1) (o .2) (o .3) (o .4))
+  pub extract : (f : File) (len k : ℕ) (limit : Limit) (out : List ℕ) → Only (λ (o : ℕ × ℕ × List ℕ). Extracts f len k limit out (o .0) (o .1) (o .2))
+  pub number : (s : List ℕ) (at : ℕ) → Only (λ (o : ℕ × ℕ × ℕ). Numbers s at (o .0) (o .1) (o .2))
+  pub step : (s : List ℕ) (at : ℕ) → Only (λ (o : ℕ × ℕ × ℤ × ℤ × ℕ). Steps s at (o .0) (o .1) (o .2) (o .3) (o .4))
+  pub decode : (s : List ℕ) (store : List ℤ) → Only (λ (o : ℕ × ℕ × ℕ × List ℤ). Decodes s store (o .0) (o .1) (o .2) (o .3))
+
+-- what a caller tells answers apart by: no refusal has number 0, no annotation has opcode 0, and of the refusals of
+-- decoding those with a place have a number below 10
+pub record Apart : Type 0 where
+  pub container-refusal : (why : why-container.Refusal) → 0 < container.refusalIn why .number
+  pub annotations-refusal : (why : why-annotations.Refusal) → 0 < annotations.refusalIn why .number
+  pub opcode : (a : BinaryAnnotation) → 0 < tripleIn a .opcode
+  pub placed : (why : why-annotations.Refusal) → annotations.refusalIn why .number < 10
