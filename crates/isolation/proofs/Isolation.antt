@@ -25,21 +25,24 @@ use Rattle.isolation.proofs.Same.{bind-same, written-same, located-same
 use Rattle.isolation.proofs.StreamSame.{mapping-same, mapped-slices, extraction-same, extracted-bytes}
 
 module _ (f g : File) (len : ℕ) where
-  opening-as : Agree (ListedOpen f len) f g → (r : Opened) → Opening g len r → Opening f len r
+  pub opening-same : Agree (ListedOpen f len) f g → opening f len ≡ opening g len
   unfolding opening
-  opening-as agree r p = record { answer = p .answer ∙ rw (located-same f g len agree) }
+  opening-same agree = rw (located-same f g len agree)
+
+  opening-as : Agree (ListedOpen f len) f g → (r : Opened) → Opening g len r → Opening f len r
+  opening-as agree r p = record { answer = p .answer ∙ sym (opening-same agree) }
 
   counting-as : Agree (ListedCount f len) f g → (r : Counted) → Counting g len r → Counting f len r
   counting-as agree r p = record { answer = p .answer ∙ sym (streamCount-same f g len agree) }
 
   module _ (k : ℕ) (limit : Limit) (agree : Agree (Listed f len k) f g) where
-    mapped-same : (room : ℕ) → mapped f (mapping f len k limit room) ≡ mapped g (mapping g len k limit room)
+    pub mapped-same : (room : ℕ) → mapped f (mapping f len k limit room) ≡ mapped g (mapping g len k limit room)
     unfolding mapped
     mapped-same room =
         bind-same (mapping-same f g len k agree limit room) λ x m.
         rw (mapped-slices f g len k agree limit room m)
 
-    slices-same : (part : SourceSlice → ℕ) (room : ℕ) (store : List ℕ) → written (mapping f len k limit room) (λ x. map part (slicesIn f x)) store ≡ written (mapping g len k limit room) (λ x. map part (slicesIn g x)) store
+    pub slices-same : (part : SourceSlice → ℕ) (room : ℕ) (store : List ℕ) → written (mapping f len k limit room) (λ x. map part (slicesIn f x)) store ≡ written (mapping g len k limit room) (λ x. map part (slicesIn g x)) store
     slices-same part room store =
         written-same _ _ store (mapping-same f g len k agree limit room) λ x m.
         rw (mapped-slices f g len k agree limit room m)

@@ -1,6 +1,7 @@
 pub mod Same
 pub mod StreamSame
 pub mod Isolation
+pub mod Boundary
 pub mod PageZero
 pub mod Corollaries
 pub mod Tight

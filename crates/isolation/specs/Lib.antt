@@ -1,5 +1,6 @@
 pub mod Listed
 pub mod Isolation
+pub mod Boundary
 pub mod Corollaries
 pub mod Tight
 pub mod Cases
