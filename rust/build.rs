@@ -6,40 +6,77 @@ use std::process::{exit, Command};
 use std::time::SystemTime;
 use std::{env, fs};
 
+/// The repository, from the package's folder, where cargo runs this. What a script says is kept, and so is the compiled
+/// script; with a path that is not from the root of all, both stay right where the tree is moved.
+const ROOT: &str = "..";
+
 fn main() {
-    let root = Path::new(env!("CARGO_MANIFEST_DIR")).parent().unwrap();
-    let archive = root.join("target/staticlib/libtrovespan.a");
-    let sources = sources(root);
+    println!("cargo:rerun-if-changed=build.rs");
+    if !linkable() {
+        // Checking and documenting need no archive, so that is no error yet.
+        println!(
+            "cargo:warning=the proved library is code for x86-64 Linux, and no program for {} can link it: build with \
+             rust/cargo, which builds for x86-64 and runs what it builds under an emulator",
+            variable("TARGET")
+        );
+        return;
+    }
+    let archive = Path::new(ROOT).join("target/staticlib/libtrovespan.a");
+    let sources = sources();
     for path in sources.iter().chain([&archive]) {
         println!("cargo:rerun-if-changed={}", path.display());
     }
-    let target = env::var("TARGET").unwrap_or_default();
-    if !target.starts_with("x86_64-") || !target.contains("linux") {
-        // Checking and documenting need no archive, so that is no error yet.
-        println!("cargo:warning=the proved library is code for x86-64 Linux, and no program for {target} can link it: build with rust/cargo, which builds for x86-64 and runs what it builds under an emulator");
-        return;
+    let newest = newest(&sources);
+    if is_stale(&archive, &newest) {
+        build();
+        date_as(&archive, &newest);
     }
-    let built = modified(&archive);
-    if built.is_none() || newest(&sources) > built {
-        build(root);
-    }
-    println!("cargo:rustc-link-search=native={}", archive.parent().unwrap().display());
-    println!("cargo:rustc-link-lib=static=trovespan");
+    link(&archive);
 }
 
-/// What the archive is made of: crates.txt, and the folders of the crates that its line for trovespan names.
-fn sources(root: &Path) -> Vec<PathBuf> {
-    let list = root.join("crates.txt");
+/// The target is what the archive has code for. A `usize` of the Rust side is one of the proved side.
+fn linkable() -> bool {
+    [("ARCH", "x86_64"), ("OS", "linux"), ("POINTER_WIDTH", "64")]
+        .iter()
+        .all(|(name, value)| variable(&format!("CARGO_CFG_TARGET_{name}")) == *value)
+}
+
+/// What the archive is made of: crates.txt, and the files of the crates that its line for trovespan names.
+fn sources() -> Vec<PathBuf> {
+    let list = Path::new(ROOT).join("crates.txt");
     let text = fs::read_to_string(&list).unwrap_or_else(|e| stop(&format!("{}: {e}", list.display())));
     let line = text.lines().find_map(|line| line.strip_prefix("trovespan:"));
     let names = line.unwrap_or_else(|| stop("crates.txt does not name trovespan"));
-    let folders = names.split_whitespace().chain(["trovespan"]).map(|name| root.join("crates").join(name));
+    let folders = names.split_whitespace().chain(["trovespan"]).map(|name| Path::new(ROOT).join("crates").join(name));
     let parts = folders.flat_map(|folder| ["src", "specs", "proofs"].map(|part| folder.join(part)));
     parts.filter(|part| part.exists()).chain([list]).collect()
 }
 
-fn build(root: &Path) {
-    let said = Command::new("rt").args(["staticlib", "trovespan"]).current_dir(root).output();
+/// The file of these files and folders that was changed last.
+fn newest(paths: &[PathBuf]) -> PathBuf {
+    let files = paths.iter().flat_map(|path| files(path));
+    files.max_by_key(|file| modified(file)).unwrap_or_else(|| stop("the proved library has no sources"))
+}
+
+/// A file, or all files below a folder.
+fn files(path: &Path) -> Vec<PathBuf> {
+    match fs::read_dir(path) {
+        Ok(entries) => entries.flatten().flat_map(|entry| files(&entry.path())).collect(),
+        Err(_) => vec![path.to_path_buf()],
+    }
+}
+
+/// It is missing, or older than the newest of its sources.
+fn is_stale(archive: &Path, newest: &Path) -> bool {
+    modified(archive).map_or(true, |built| Some(built) < modified(newest))
+}
+
+fn modified(path: &Path) -> Option<SystemTime> {
+    fs::metadata(path).and_then(|data| data.modified()).ok()
+}
+
+fn build() {
+    let said = Command::new("rt").args(["staticlib", "trovespan"]).current_dir(ROOT).output();
     match said {
         Ok(said) if said.status.success() => {}
         Ok(said) => {
@@ -47,21 +84,27 @@ fn build(root: &Path) {
             stop("`rt staticlib trovespan` failed, and said the above")
         }
         Err(e) => stop(&format!(
-            "target/staticlib/libtrovespan.a is missing or older than its sources, and `rt`, the command of the Rattle toolchain that proves and builds it, could not be run ({e}): put it on the path"
+            "target/staticlib/libtrovespan.a is missing or older than its sources, and `rt`, the command of the Rattle \
+             toolchain that proves and builds it, could not be run ({e}): put it on the path"
         )),
     }
 }
 
-/// When the newest file of these files and folders was last changed.
-fn newest(paths: &[PathBuf]) -> Option<SystemTime> {
-    paths.iter().filter_map(|path| match fs::read_dir(path) {
-        Ok(entries) => newest(&entries.flatten().map(|entry| entry.path()).collect::<Vec<_>>()),
-        Err(_) => modified(path),
-    }).max()
+/// Gives the archive the date of its newest source. Cargo takes what is written while this script runs for a change after
+/// it, and would run it once more. Where the date cannot be set, that is all that happens.
+fn date_as(archive: &Path, newest: &Path) {
+    let _ = Command::new("touch").arg("-r").args([newest, archive]).status();
 }
 
-fn modified(path: &Path) -> Option<SystemTime> {
-    fs::metadata(path).and_then(|data| data.modified()).ok()
+/// The linker runs elsewhere, so it gets the whole path.
+fn link(archive: &Path) {
+    let whole = fs::canonicalize(archive).unwrap_or_else(|e| stop(&format!("{}: {e}", archive.display())));
+    println!("cargo:rustc-link-search=native={}", whole.with_file_name("").display());
+    println!("cargo:rustc-link-lib=static=trovespan");
+}
+
+fn variable(name: &str) -> String {
+    env::var(name).unwrap_or_else(|_| stop(&format!("cargo does not say {name}")))
 }
 
 fn stop(why: &str) -> ! {
