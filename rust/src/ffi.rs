@@ -1,6 +1,7 @@
-//! The proved library's functions. A slice crosses as a pointer and a length.
+//! The proved library's functions, and all that is unsafe here. A slice crosses as a pointer and a length.
 //!
 //! Nothing checks these declarations against `crates/trovespan/src/lib.rt`; the comparison with pdb calls each of them.
+#![deny(unsafe_op_in_unsafe_fn)]
 
 mod c {
     extern "C" {
@@ -50,8 +51,13 @@ mod c {
     }
 }
 
-// Each function below calls its fellow above with pointers and lengths of live slices, and with numbers of its own. That
-// is all the callee asks: it is proved for any contents, and keeps no pointer.
+/// What a step tells in place of an opcode at the end.
+pub const NO_OPCODE: u32 = 0;
+
+// SAFETY, of each call below: every pointer and length is that of a slice, or of a number, that is borrowed for the call.
+// So it is there, and what is written overlaps nothing else that is lent. That is all that is asked: the callee is proved
+// for any contents and any lengths, reads and writes within these alone, and keeps no pointer. The pointer of an empty
+// slice points to nothing, and the callee reads nothing through it.
 
 pub fn open(file: &[u8]) -> (u32, u64, u64) {
     let (mut value, mut used) = (0, 0);
@@ -110,9 +116,8 @@ pub fn number(bytes: &[u8], at: usize) -> (u32, u64, u64) {
 
 pub fn step(bytes: &[u8], at: usize) -> (u32, u64, i64, i64, u64) {
     let (mut value, mut first, mut second, mut next) = (0, 0, 0, 0);
-    let number = unsafe {
-        c::trovespan_step(bytes.as_ptr(), bytes.len(), at, &mut value, &mut first, &mut second, &mut next)
-    };
+    let number =
+        unsafe { c::trovespan_step(bytes.as_ptr(), bytes.len(), at, &mut value, &mut first, &mut second, &mut next) };
     (number, value, first, second, next)
 }
 

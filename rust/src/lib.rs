@@ -1,33 +1,86 @@
 //! Reads the container of PDB files (MSF) and decodes binary annotations, by a library that is proved.
 //!
-//! Every function answers for any input, none allocates, and a refusal leaves what was lent as it was. Numbers and
-//! values of refusals are those of the project's table (`docs/RULES.md`).
+//! A container is asked by [`open`], [`stream_count`], [`map`] and [`extract`]; annotations by [`number`], [`step`] and
+//! [`decode`]. Every function answers for any input, and none allocates.
+//!
+//! # Stores
+//!
+//! An answer of many entries goes to a store that the caller lends. A success writes the first entries only, as many as it
+//! says; the others stay. A refusal writes nothing. Where the store is too small, refusal 10 says how many entries are
+//! needed, so an empty store asks for the size:
+//!
+//! ```
+//! use trovespan::Refusal;
+//!
+//! /// The bytes of a stream.
+//! fn whole(file: &[u8], stream: u32) -> Result<Vec<u8>, Refusal> {
+//!     let room = match trovespan::extract(file, stream, None, &mut []) {
+//!         Err(Refusal { number: 10, value }) => value as usize,
+//!         answer => answer?,
+//!     };
+//!     let mut bytes = vec![0; room];
+//!     trovespan::extract(file, stream, None, &mut bytes)?;
+//!     Ok(bytes)
+//! }
+//!
+//! // Sixteen pages of 256 bytes. Page 1 has the location list, page 2 the directory: one stream, its size, its page.
+//! let mut file = vec![0; 4096];
+//! file[..32].copy_from_slice(b"Microsoft C/C++ MSF 7.00\r\n\x1a\x44\x53\x00\x00\x00");
+//! for (at, word) in [(32, 256_u32), (40, 16), (44, 12), (52, 1), (256, 2), (512, 1), (516, 5), (520, 3)] {
+//!     file[at..at + 4].copy_from_slice(&word.to_le_bytes());
+//! }
+//! file[768..773].copy_from_slice(b"hello");
+//!
+//! assert_eq!(whole(&file, 0).unwrap(), b"hello");
+//! assert_eq!(whole(&file, 1), Err(Refusal { number: 5, value: 1 }));
+//! assert_eq!(whole(&[], 0), Err(Refusal { number: 1, value: 0 }));
+//! ```
+//!
+//! # Refusals
+//!
+//! | Number | Value | Given when |
+//! |---|---|---|
+//! | 1 | 0 | the file has under 4,096 bytes, or begins with no magic of a PDB file |
+//! | 2 | 0 | the file begins with the magic of the small format |
+//! | 3 | the size | the page size has not exactly one bit set, or lies outside 0x100 to 0x800000 |
+//! | 4 | the page | a page number is 0 or above the number of pages used |
+//! | 5 | the stream | there are not so many streams, or this one is absent |
+//! | 6 | 0 | the file ends before what is to be read of it |
+//! | 7 | 0 | the header block, the directory or the annotation bytes end before what is to be read of them |
+//! | 8 | 0 | a compressed number of four bytes begins with 0xe0 or more |
+//! | 9 | the opcode | an annotation's opcode is above 13 |
+//! | 10 | the entries needed | the answer is complete, but the store is too small for it |
+//!
+//! Where several conditions hold, the one that is met first in reading decides.
+#![deny(unsafe_code)]
 #![warn(missing_docs)]
 
+#[allow(unsafe_code)]
 mod ffi;
+mod said;
 
-/// Why an operation refuses: the number in the table of refusals, and the value that goes with it.
+/// Why a function refuses. [The table](crate#refusals) has the numbers and their values.
 #[derive(Clone, Copy, Debug, PartialEq, Eq, Hash)]
 pub struct Refusal {
     /// 1 to 10.
     pub number: u32,
-    /// The page size of 3, the page of 4, the stream of 5, the opcode of 9, the room needed of 10; else 0.
+    /// The page size of 3, the page of 4, the stream of 5, the opcode of 9, the entries needed of 10; else 0.
     pub value: u64,
 }
 
-/// What the header says.
+/// What a container's header says.
 #[derive(Clone, Copy, Debug, PartialEq, Eq, Hash)]
 pub struct Opened {
-    /// Bytes a page.
+    /// How many bytes a page has.
     pub page_size: u32,
-    /// How many pages are used; the largest page number that passes.
+    /// How many pages are used: the largest page number that is not refused.
     pub pages_used: u32,
 }
 
-/// How a stream lies in the file.
+/// How much [`map`] has mapped.
 #[derive(Clone, Copy, Debug, PartialEq, Eq, Hash)]
 pub struct Mapped {
-    /// How many entries of both stores were written.
+    /// How many slices there are: so many entries of each store were written.
     pub slices: usize,
     /// How many bytes the slices have together.
     pub length: usize,
@@ -45,36 +98,45 @@ pub enum Step {
         /// Its second operand; 0 where it has none.
         second: i64,
     },
-    /// No more annotations.
+    /// There are no more annotations.
     End,
-    /// No annotation can be read here.
+    /// No annotation can be read here: 7, 8 or 9.
     Refused(Refusal),
 }
 
-/// Why decoding all refuses.
+/// Why [`decode`] refuses.
 #[derive(Clone, Copy, Debug, PartialEq, Eq, Hash)]
 pub struct DecodeRefusal {
-    /// The first refusal.
+    /// The first refusal that is met: 7, 8, 9 or, where there is no other, 10.
     pub refusal: Refusal,
-    /// The place after it; none for refusal 10.
+    /// The place after what was refused; none for 10.
     pub place: Option<usize>,
 }
 
 /// Opens a container: its page size, and how many pages it uses.
+///
+/// Refuses with 1, 2, 3, 4 or 7.
 pub fn open(file: &[u8]) -> Result<Opened, Refusal> {
     let (number, value, used) = ffi::open(file);
-    told(number, value)?;
+    accepted(number, value)?;
     Ok(Opened { page_size: value as u32, pages_used: used as u32 })
 }
 
-/// How many streams a container has.
+/// How many streams a container has, absent ones included.
+///
+/// Refuses as [`open`] does, and with 6.
 pub fn stream_count(file: &[u8]) -> Result<u32, Refusal> {
     let (number, value) = ffi::stream_count(file);
-    told(number, value)?;
+    accepted(number, value)?;
     Ok(value as u32)
 }
 
-/// Maps a stream, or its first `limit` bytes, to slices of the file: where each begins, and how many bytes it has.
+/// Maps a stream, or its first `limit` bytes, to slices of the file: where each begins goes to `offsets`, how many bytes
+/// it has to `sizes`. The slices in their order are the stream.
+///
+/// Refuses as [`stream_count`] does, with 5, and with 10 where the shorter store has fewer entries than there are slices.
+/// All pages of the stream are judged, whatever the limit. A slice may lie past the end of the file; [`extract`] refuses
+/// that.
 pub fn map(
     file: &[u8],
     stream: u32,
@@ -83,50 +145,74 @@ pub fn map(
     sizes: &mut [u64],
 ) -> Result<Mapped, Refusal> {
     let (number, value, length) = ffi::map(file, stream, limit, offsets, sizes);
-    told(number, value)?;
+    accepted(number, value)?;
     Ok(Mapped { slices: value as usize, length: length as usize })
 }
 
-/// Copies a stream, or its first `limit` bytes, to the front of `out`; answers how many bytes.
+/// Copies a stream, or its first `limit` bytes, to the front of `out`, and answers how many bytes these are.
+///
+/// Refuses as [`map`] does, with 6 also where a slice reaches past the end of the file, and with 10 where `out` has fewer
+/// bytes than are to be copied.
 pub fn extract(file: &[u8], stream: u32, limit: Option<usize>, out: &mut [u8]) -> Result<usize, Refusal> {
     let (number, value) = ffi::extract(file, stream, limit, out);
-    told(number, value)?;
+    accepted(number, value)?;
     Ok(value as usize)
 }
 
-/// The compressed number at a place, or why there is none, and the place after it.
+/// The compressed number at a place, or 7 or 8, and the place after it. After 7 that is the end of the bytes.
+///
+/// ```
+/// assert_eq!(trovespan::number(&[0x81, 0x02], 0), (Ok(0x102), 2));
+/// ```
 pub fn number(bytes: &[u8], at: usize) -> (Result<u32, Refusal>, usize) {
     let (number, value, next) = ffi::number(bytes, at);
-    (told(number, value).map(|()| value as u32), next as usize)
+    (accepted(number, value).map(|()| value as u32), next as usize)
 }
 
-/// One step over binary annotations from a place on, and the place after it.
+/// One step over binary annotations: what stands at a place, and the place after it, from which the next step goes on.
+/// After the end, and after 7, that is the end of the bytes.
+///
+/// ```
+/// use trovespan::Step;
+///
+/// assert_eq!(trovespan::step(&[6, 15], 0), (Step::Annotation { opcode: 6, first: -7, second: 0 }, 2));
+/// assert_eq!(trovespan::step(&[6, 15], 2), (Step::End, 2));
+/// ```
 pub fn step(bytes: &[u8], at: usize) -> (Step, usize) {
     let (number, value, first, second, next) = ffi::step(bytes, at);
-    let step = match (told(number, value), value as u32) {
+    let step = match (accepted(number, value), value as u32) {
         (Err(why), _) => Step::Refused(why),
-        (Ok(()), 0) => Step::End,
+        (Ok(()), ffi::NO_OPCODE) => Step::End,
         (Ok(()), opcode) => Step::Annotation { opcode, first, second },
     };
     (step, next as usize)
 }
 
-/// Decodes all annotations to the front of `store`, three numbers each: opcode, first, second or 0. Answers how many
-/// annotations there are.
+/// Decodes all annotations to the front of `store`, three entries each: opcode, first operand, second operand or 0.
+/// Answers how many annotations there are.
+///
+/// Refuses with the first refusal of a step; where there is none, with 10 if the store has fewer than three entries an
+/// annotation.
+///
+/// ```
+/// let mut store = [0; 6];
+/// assert_eq!(trovespan::decode(&[3, 5, 11, 0x72], &mut store), Ok(2));
+/// assert_eq!(store, [3, 5, 0, 11, 2, -3]);
+/// ```
 pub fn decode(bytes: &[u8], store: &mut [i64]) -> Result<usize, DecodeRefusal> {
     let (number, value, place) = ffi::decode(bytes, store);
     let place = if number == NO_ROOM { None } else { Some(place as usize) };
-    told(number, value).map_err(|refusal| DecodeRefusal { refusal, place })?;
+    accepted(number, value).map_err(|refusal| DecodeRefusal { refusal, place })?;
     Ok(value as usize)
 }
 
-/// The refusal of a store that is too small, the only one of decoding that has no place.
+/// The refusal of a store that is too small.
 const NO_ROOM: u32 = 10;
 
-/// 0 is no refusal.
-fn told(number: u32, value: u64) -> Result<(), Refusal> {
-    if number == 0 {
-        return Ok(());
+/// What the proved side returns is 0, or a refusal's number.
+fn accepted(number: u32, value: u64) -> Result<(), Refusal> {
+    match number {
+        0 => Ok(()),
+        _ => Err(Refusal { number, value }),
     }
-    Err(Refusal { number, value })
 }
