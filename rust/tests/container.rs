@@ -1,0 +1,270 @@
+//! The container's functions: each accepted and refused, with every refusal it can give, and the stores after it.
+
+mod files;
+
+use files::*;
+use trovespan::{extract, map, open, stream_count, Mapped, Opened, Refusal};
+
+/// What stands in a store before a call.
+const BEFORE: u64 = 0xdead_beef_dead_beef;
+const BYTE_BEFORE: u8 = 0xa5;
+
+const LIMITS: [Option<usize>; 6] = [None, Some(0), Some(1), Some(599), Some(600), Some(usize::MAX)];
+
+fn refusal(number: u32, value: u64) -> Refusal {
+    Refusal { number, value }
+}
+
+/// Files that no function opens, and why.
+fn unopened() -> Vec<(Vec<u8>, Refusal)> {
+    vec![
+        (vec![], refusal(1, 0)),
+        (vec![0], refusal(1, 0)),
+        (f_cut(4095), refusal(1, 0)),
+        (f_headed(b"microsoft"), refusal(1, 0)),
+        (f_headed(SMALL_MAGIC), refusal(2, 0)),
+        (f_with(PAGE_SIZE, 0), refusal(3, 0)),
+        (f_with(PAGE_SIZE, 0x80), refusal(3, 0x80)),
+        (f_with(PAGE_SIZE, 0x180), refusal(3, 0x180)),
+        (f_with(PAGE_SIZE, 0x100_0000), refusal(3, 0x100_0000)),
+        (f_with(PAGE_SIZE, u32::MAX), refusal(3, 0xffff_ffff)),
+        (f_with(LOCATION_ENTRY, 0), refusal(4, 0)),
+        (f_with(LOCATION_ENTRY, 25), refusal(4, 25)),
+        (f_with(PAGES_USED, 0), refusal(4, 3)),
+        (f_overfull(), refusal(7, 0)),
+    ]
+}
+
+/// Files that open, but whose streams cannot be counted, and why.
+fn uncounted() -> Vec<(Vec<u8>, Refusal)> {
+    vec![
+        (f_with(LOCATION_LIST, 0), refusal(4, 0)),
+        (f_with(LOCATION_LIST, 25), refusal(4, 25)),
+        (f_with(LOCATION_ENTRY, 24), refusal(6, 0)), // the location list is past the file
+        (f_with(LOCATION_LIST, 24), refusal(6, 0)),  // the directory is
+        (f_with(DIRECTORY_SIZE, 0), refusal(7, 0)),
+        (f_with(DIRECTORY_SIZE, 3), refusal(7, 0)),
+    ]
+}
+
+/// Files and streams that are counted but not mapped, and why.
+fn unmapped() -> Vec<(Vec<u8>, u32, Refusal)> {
+    vec![
+        (f(), 1, refusal(5, 1)), // absent
+        (f(), 3, refusal(5, 3)),
+        (f(), u32::MAX, refusal(5, 0xffff_ffff)),
+        (f_with(COUNT, 0), 0, refusal(5, 0)),
+        (f_with(SIZE_0, ABSENT), 0, refusal(5, 0)),
+        (f_with(LAST_PAGE, 0), 2, refusal(4, 0)),
+        (f_with(LAST_PAGE, 25), 2, refusal(4, 25)),
+        (f_with(LAST_PAGE, u32::MAX), 2, refusal(4, 0xffff_ffff)),
+        (f_with(DIRECTORY_SIZE, 15), 0, refusal(7, 0)), // not all sizes
+        (f_with(DIRECTORY_SIZE, 35), 2, refusal(7, 0)), // not all pages
+        (f_with(SIZE_0, 1281), 2, refusal(7, 0)),       // nor here, by what comes before
+        (f_with(COUNT, u32::MAX), 0, refusal(7, 0)),
+    ]
+}
+
+/// All the files and streams above: no stream of any is mapped.
+fn all_unmapped() -> Vec<(Vec<u8>, u32, Refusal)> {
+    let whole = unopened().into_iter().chain(uncounted());
+    whole.map(|(file, why)| (file, 2, why)).chain(unmapped()).collect()
+}
+
+/// Maps into stores of so many entries. After a refusal both are as before, after an answer all entries past it.
+fn mapped(
+    file: &[u8],
+    stream: u32,
+    limit: Option<usize>,
+    rooms: (usize, usize),
+) -> Result<(Vec<(u64, u64)>, usize), Refusal> {
+    let (mut offsets, mut sizes) = (vec![BEFORE; rooms.0], vec![BEFORE; rooms.1]);
+    let answer = map(file, stream, limit, &mut offsets, &mut sizes);
+    let written = answer.map_or(0, |mapped| mapped.slices);
+    assert!(offsets[written..].iter().chain(&sizes[written..]).all(|entry| *entry == BEFORE));
+    let Mapped { slices, length } = answer?;
+    Ok((offsets.into_iter().zip(sizes).take(slices).collect(), length))
+}
+
+/// Extracts into a store of so many bytes, with the same care.
+fn extracted(file: &[u8], stream: u32, limit: Option<usize>, room: usize) -> Result<Vec<u8>, Refusal> {
+    let mut out = vec![BYTE_BEFORE; room];
+    let answer = extract(file, stream, limit, &mut out);
+    assert!(out[answer.unwrap_or(0)..].iter().all(|byte| *byte == BYTE_BEFORE));
+    out.truncate(answer?);
+    Ok(out)
+}
+
+/// A slice reaches past the file: it is mapped, and not extracted.
+fn past_the_file() -> Vec<(Vec<u8>, u32)> {
+    vec![(f_with(LAST_PAGE, 24), 2), (f_cut(5419), 0)]
+}
+
+#[test]
+fn opens() {
+    assert_eq!(open(&f()), Ok(Opened { page_size: 256, pages_used: 24 }));
+    assert_eq!(open(&f_cut(4096)), Ok(Opened { page_size: 256, pages_used: 24 }));
+    assert_eq!(open(&f_with(PAGE_SIZE, 0x80_0000)), Ok(Opened { page_size: 0x80_0000, pages_used: 24 }));
+    assert_eq!(open(&f_with(PAGES_USED, u32::MAX)), Ok(Opened { page_size: 256, pages_used: u32::MAX }));
+}
+
+#[test]
+fn refuses_to_open() {
+    for (file, why) in unopened() {
+        assert_eq!(open(&file), Err(why));
+    }
+}
+
+#[test]
+fn opening_does_not_read_the_directory() {
+    for (file, _) in uncounted() {
+        assert_eq!(open(&file), Ok(Opened { page_size: 256, pages_used: 24 }));
+    }
+}
+
+#[test]
+fn counts() {
+    assert_eq!(stream_count(&f()), Ok(3));
+    for count in [0, 1, u32::MAX] {
+        assert_eq!(stream_count(&f_with(COUNT, count)), Ok(count));
+    }
+}
+
+#[test]
+fn refuses_to_count() {
+    for (file, why) in unopened().into_iter().chain(uncounted()) {
+        assert_eq!(stream_count(&file), Err(why));
+    }
+}
+
+#[test]
+fn maps() {
+    assert_eq!(mapped(&f(), 0, None, (1, 1)), Ok((vec![(5120, 300)], 300)));
+    assert_eq!(mapped(&f(), 2, None, (2, 2)), Ok((vec![(2560, 512), (1280, 88)], 600)));
+    assert_eq!(mapped(&f_with(SIZE_0, 0), 0, None, (2, 2)), Ok((vec![], 0)));
+}
+
+#[test]
+fn maps_as_far_as_the_limit() {
+    let limits: [(usize, &[(u64, u64)]); 8] = [
+        (0, &[]),
+        (1, &[(2560, 1)]),
+        (512, &[(2560, 512)]),
+        (513, &[(2560, 512), (1280, 1)]),
+        (599, &[(2560, 512), (1280, 87)]),
+        (600, &[(2560, 512), (1280, 88)]),
+        (601, &[(2560, 512), (1280, 88)]),
+        (usize::MAX, &[(2560, 512), (1280, 88)]),
+    ];
+    for (limit, slices) in limits {
+        assert_eq!(mapped(&f(), 2, Some(limit), (3, 3)), Ok((slices.to_vec(), limit.min(600))));
+    }
+}
+
+#[test]
+fn refuses_to_map() {
+    for (file, stream, why) in all_unmapped() {
+        for limit in LIMITS {
+            for rooms in [(0, 0), (3, 3)] {
+                assert_eq!(mapped(&file, stream, limit, rooms), Err(why));
+            }
+        }
+    }
+}
+
+#[test]
+fn the_shorter_store_is_the_room_of_a_mapping() {
+    let whole = Ok((vec![(2560, 512), (1280, 88)], 600));
+    for rooms in [(2, 2), (2, 3), (3, 2), (2, 9), (9, 2), (9, 9)] {
+        assert_eq!(mapped(&f(), 2, None, rooms), whole);
+    }
+    for rooms in [(0, 0), (1, 1), (1, 2), (2, 1), (0, 9), (9, 0), (1, 9), (9, 1)] {
+        assert_eq!(mapped(&f(), 2, None, rooms), Err(refusal(10, 2)));
+    }
+}
+
+#[test]
+fn the_room_of_a_mapping_is_judged_after_the_limit() {
+    assert_eq!(mapped(&f(), 2, Some(512), (1, 1)), Ok((vec![(2560, 512)], 512)));
+    assert_eq!(mapped(&f(), 2, Some(513), (1, 1)), Err(refusal(10, 2)));
+    assert_eq!(mapped(&f(), 2, Some(1), (0, 0)), Err(refusal(10, 1)));
+    assert_eq!(mapped(&f(), 2, Some(0), (0, 0)), Ok((vec![], 0)));
+}
+
+#[test]
+fn maps_what_is_past_the_file() {
+    assert_eq!(mapped(&f_with(LAST_PAGE, 24), 2, None, (2, 2)), Ok((vec![(2560, 512), (6144, 88)], 600)));
+    assert_eq!(mapped(&f_cut(5419), 0, None, (1, 1)), Ok((vec![(5120, 300)], 300)));
+}
+
+#[test]
+fn extracts() {
+    assert_eq!(extracted(&f(), 0, None, 1000), Ok(stream_0()));
+    assert_eq!(extracted(&f(), 2, None, 1000), Ok(stream_2()));
+    assert_eq!(extracted(&f_with(SIZE_0, 0), 0, None, 1000), Ok(vec![]));
+}
+
+#[test]
+fn extracts_as_far_as_the_limit() {
+    for limit in [0, 1, 256, 512, 513, 599, 600, 601, usize::MAX] {
+        let wanted = stream_2()[..limit.min(600)].to_vec();
+        assert_eq!(extracted(&f(), 2, Some(limit), 1000), Ok(wanted));
+    }
+}
+
+#[test]
+fn extracts_what_is_mapped() {
+    let file = f();
+    for stream in [0, 2] {
+        for limit in LIMITS {
+            let (slices, length) = mapped(&file, stream, limit, (2, 2)).unwrap();
+            let bytes: Vec<u8> =
+                slices.iter().flat_map(|&(at, size)| &file[at as usize..][..size as usize]).copied().collect();
+            assert_eq!(bytes.len(), length);
+            assert_eq!(extracted(&file, stream, limit, 600), Ok(bytes));
+        }
+    }
+}
+
+#[test]
+fn refuses_to_extract() {
+    for (file, stream, why) in all_unmapped() {
+        for limit in LIMITS {
+            for room in [0, 1000] {
+                assert_eq!(extracted(&file, stream, limit, room), Err(why));
+            }
+        }
+    }
+}
+
+#[test]
+fn refuses_to_extract_what_is_past_the_file() {
+    for (file, stream) in past_the_file() {
+        for room in [0, 1000] {
+            assert_eq!(extracted(&file, stream, None, room), Err(refusal(6, 0)));
+            assert_eq!(extracted(&file, stream, Some(usize::MAX), room), Err(refusal(6, 0)));
+        }
+    }
+    assert_eq!(extracted(&f_with(LAST_PAGE, 24), 2, Some(513), 1000), Err(refusal(6, 0)));
+}
+
+#[test]
+fn extracts_what_the_limit_leaves_in_the_file() {
+    assert_eq!(extracted(&f_with(LAST_PAGE, 24), 2, Some(512), 1000), Ok(stream_2()[..512].to_vec()));
+    assert_eq!(extracted(&f_cut(5419), 0, Some(299), 1000), Ok(stream_0()[..299].to_vec()));
+    assert_eq!(extracted(&f_cut(5419), 0, Some(0), 0), Ok(vec![]));
+}
+
+#[test]
+fn the_room_of_an_extraction_is_judged_after_the_limit() {
+    assert_eq!(extracted(&f(), 2, None, 600), Ok(stream_2()));
+    assert_eq!(extracted(&f(), 2, None, 601), Ok(stream_2()));
+    for room in [0, 1, 599] {
+        assert_eq!(extracted(&f(), 2, None, room), Err(refusal(10, 600)));
+    }
+    assert_eq!(extracted(&f(), 2, Some(513), 512), Err(refusal(10, 513)));
+    assert_eq!(extracted(&f(), 2, Some(513), 513), Ok(stream_2()[..513].to_vec()));
+    assert_eq!(extracted(&f(), 2, Some(1), 0), Err(refusal(10, 1)));
+    assert_eq!(extracted(&f(), 2, Some(0), 0), Ok(vec![]));
+    assert_eq!(extracted(&f_with(SIZE_0, 0), 0, None, 0), Ok(vec![]));
+}

@@ -1,0 +1,68 @@
+//! Containers as files.
+
+const MAGIC: &[u8; 32] = b"Microsoft C/C++ MSF 7.00\r\n\x1a\x44\x53\x00\x00\x00";
+pub const SMALL_MAGIC: &[u8; 42] = b"Microsoft C/C++ program database 2.00\r\n\x1a\x4a\x47";
+
+/// The size of a stream that is not there.
+pub const ABSENT: u32 = 0xffff_ffff;
+
+// Where file F has its words.
+pub const PAGE_SIZE: usize = 32;
+pub const PAGES_USED: usize = 40;
+pub const DIRECTORY_SIZE: usize = 44;
+pub const LOCATION_ENTRY: usize = 52;
+pub const LOCATION_LIST: usize = 3 * 256;
+pub const COUNT: usize = 4 * 256;
+pub const SIZE_0: usize = COUNT + 4;
+pub const LAST_PAGE: usize = COUNT + 32;
+
+/// File F of the project's rules, 24 pages of 256 bytes: stream 0 has 300 bytes in pages 20 and 21, stream 1 is absent,
+/// stream 2 has 600 bytes in pages 10, 11 and 5. No two neighbouring bytes of what it leaves open are equal.
+pub fn f() -> Vec<u8> {
+    let mut file: Vec<u8> = (0..6144).map(|i| (i % 251) as u8).collect();
+    file[..MAGIC.len()].copy_from_slice(MAGIC);
+    put(&mut file, PAGE_SIZE, &[256, 1, 24, 36, 0, 3]);
+    put(&mut file, LOCATION_LIST, &[4]);
+    put(&mut file, COUNT, &[3, 300, ABSENT, 600, 20, 21, 10, 11, 5]);
+    file
+}
+
+/// F with a word replaced.
+pub fn f_with(at: usize, word: u32) -> Vec<u8> {
+    let mut file = f();
+    put(&mut file, at, &[word]);
+    file
+}
+
+/// F cut to its first bytes.
+pub fn f_cut(length: usize) -> Vec<u8> {
+    f()[..length].to_vec()
+}
+
+/// F with other bytes at its front.
+pub fn f_headed(front: &[u8]) -> Vec<u8> {
+    let mut file = f();
+    file[..front.len()].copy_from_slice(front);
+    file
+}
+
+/// F with a directory so large that its location list takes one entry more than the header block holds.
+pub fn f_overfull() -> Vec<u8> {
+    let mut file = f_with(DIRECTORY_SIZE, 16_564_225);
+    put(&mut file, LOCATION_ENTRY, &[3; 1011]);
+    file
+}
+
+/// The bytes of F's streams, by their pages.
+pub fn stream_0() -> Vec<u8> {
+    f()[5120..5420].to_vec()
+}
+pub fn stream_2() -> Vec<u8> {
+    [&f()[2560..3072], &f()[1280..1368]].concat()
+}
+
+fn put(file: &mut [u8], at: usize, words: &[u32]) {
+    for (place, word) in file[at..].chunks_exact_mut(4).zip(words) {
+        place.copy_from_slice(&word.to_le_bytes());
+    }
+}
