@@ -6,8 +6,8 @@ use std::process::{exit, Command};
 use std::time::SystemTime;
 use std::{env, fs};
 
-/// The repository, from the package's folder, where cargo runs this. What a script says is kept, and so is the compiled
-/// script; with a path that is not from the root of all, both stay right where the tree is moved.
+/// The repository, from the package's folder, where cargo runs this. Cargo keeps this script compiled, and what it said;
+/// with paths from here both stay right where the tree is moved.
 const ROOT: &str = "..";
 
 fn main() {
@@ -96,10 +96,12 @@ fn date_as(archive: &Path, newest: &Path) {
     let _ = Command::new("touch").arg("-r").args([newest, archive]).status();
 }
 
-/// The linker runs elsewhere, so it gets the whole path.
+/// Links a copy in the folder that cargo gives to this script, which cargo finds again where the tree is moved.
 fn link(archive: &Path) {
-    let whole = fs::canonicalize(archive).unwrap_or_else(|e| stop(&format!("{}: {e}", archive.display())));
-    println!("cargo:rustc-link-search=native={}", whole.with_file_name("").display());
+    let folder = variable("OUT_DIR");
+    let copied = fs::copy(archive, Path::new(&folder).join("libtrovespan.a"));
+    copied.unwrap_or_else(|e| stop(&format!("{} could not be copied to {folder}: {e}", archive.display())));
+    println!("cargo:rustc-link-search=native={folder}");
     println!("cargo:rustc-link-lib=static=trovespan");
 }
 
