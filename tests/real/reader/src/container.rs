@@ -1,0 +1,118 @@
+//! The container, by `open`, `stream_count`, `map` and `extract`, in the words of
+//! `llvm-pdbutil dump --summary --streams --stream-blocks`.
+
+use std::fmt::Write;
+
+use trovespan::{Opened, Refusal};
+
+use crate::totals::Totals;
+
+/// A stream's bytes; none where it is absent.
+pub type Stream = Option<Vec<u8>>;
+
+pub struct Container<'a> {
+    file: &'a [u8],
+    opened: Opened,
+    count: u32,
+}
+
+/// Where a stream lies: the beginning and the size of each slice.
+struct Mapping {
+    offsets: Vec<u64>,
+    sizes: Vec<u64>,
+    length: usize,
+}
+
+const STREAM_NOT_FOUND: u32 = 5;
+const NO_ROOM: u32 = 10;
+
+/// The size that the directory has for an absent stream, which llvm-pdbutil prints as it is.
+const ABSENT: u32 = 0xffff_ffff;
+
+impl<'a> Container<'a> {
+    pub fn open(file: &'a [u8]) -> Result<Self, String> {
+        let opened = trovespan::open(file).map_err(refused)?;
+        let count = trovespan::stream_count(file).map_err(refused)?;
+        Ok(Container { file, opened, count })
+    }
+
+    /// What is said of the container and its streams, and the streams.
+    pub fn streams(&self, totals: &mut Totals) -> Result<(String, Vec<Stream>), String> {
+        let mut text = format!(
+            "Block Size: {}\nNumber of blocks: {}\nNumber of streams: {}\n",
+            self.opened.page_size, self.opened.pages_used, self.count
+        );
+        let mut streams = Vec::new();
+        for number in 0..self.count {
+            let stream = match self.map(number)? {
+                Some(mapping) => Some(self.present(number, &mapping, &mut text, totals)?),
+                None => {
+                    writeln!(text, "Stream {number} ({ABSENT} bytes)\nBlocks: []").unwrap();
+                    totals.absent += 1;
+                    None
+                }
+            };
+            streams.push(stream);
+        }
+        totals.streams += streams.len();
+        Ok((text, streams))
+    }
+
+    fn present(&self, number: u32, mapping: &Mapping, text: &mut String, totals: &mut Totals) -> Result<Vec<u8>, String> {
+        let pages = self.pages(mapping)?;
+        let list = pages.iter().map(u64::to_string).collect::<Vec<_>>().join(", ");
+        writeln!(text, "Stream {number} ({} bytes)\nBlocks: [{list}]", mapping.length).unwrap();
+        let bytes = self.extract(number, mapping)?;
+        totals.pages += pages.len();
+        totals.slices += mapping.sizes.len();
+        totals.bytes += bytes.len();
+        totals.empty += usize::from(bytes.is_empty());
+        Ok(bytes)
+    }
+
+    /// None where the stream is absent. The first call asks how much room is needed.
+    fn map(&self, number: u32) -> Result<Option<Mapping>, String> {
+        let need = match trovespan::map(self.file, number, None, &mut [], &mut []) {
+            Ok(_) => 0,
+            Err(Refusal { number: NO_ROOM, value }) => value as usize,
+            Err(Refusal { number: STREAM_NOT_FOUND, .. }) => return Ok(None),
+            Err(why) => return Err(refused(why)),
+        };
+        let (mut offsets, mut sizes) = (vec![0; need], vec![0; need]);
+        let mapped = trovespan::map(self.file, number, None, &mut offsets, &mut sizes).map_err(refused)?;
+        if mapped.slices != need {
+            return Err(format!("stream {number} needs room for {need} slices and has {}", mapped.slices));
+        }
+        Ok(Some(Mapping { offsets, sizes, length: mapped.length }))
+    }
+
+    /// The pages that the slices lie in, in order. Only the last slice may end within a page.
+    fn pages(&self, mapping: &Mapping) -> Result<Vec<u64>, String> {
+        let page_size = u64::from(self.opened.page_size);
+        let mut pages = Vec::new();
+        for (index, (offset, size)) in mapping.offsets.iter().zip(&mapping.sizes).enumerate() {
+            let last = index + 1 == mapping.sizes.len();
+            if offset % page_size != 0 || *size == 0 || (size % page_size != 0 && !last) {
+                return Err(format!("slice {index} is not whole pages: ({offset}, {size})"));
+            }
+            pages.extend(offset / page_size..=(offset + size - 1) / page_size);
+        }
+        Ok(pages)
+    }
+
+    /// The stream's bytes, which must be those of its slices end to end.
+    fn extract(&self, number: u32, mapping: &Mapping) -> Result<Vec<u8>, String> {
+        let mut bytes = vec![0; mapping.length];
+        let length = trovespan::extract(self.file, number, None, &mut bytes).map_err(refused)?;
+        let slices = mapping.offsets.iter().zip(&mapping.sizes);
+        let parts = slices.map(|(&offset, &size)| &self.file[offset as usize..(offset + size) as usize]);
+        if length != mapping.length || bytes != parts.collect::<Vec<_>>().concat() {
+            return Err(format!("the bytes of stream {number} are not those of its slices"));
+        }
+        Ok(bytes)
+    }
+}
+
+fn refused(why: Refusal) -> String {
+    format!("refused {} {}", why.number, why.value)
+}

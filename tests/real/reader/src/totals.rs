@@ -1,0 +1,38 @@
+//! What there was in all files together.
+
+#[derive(Default)]
+pub struct Totals {
+    pub files: usize,
+    pub streams: usize,
+    pub empty: usize,
+    pub absent: usize,
+    pub slices: usize,
+    pub pages: usize,
+    pub bytes: usize,
+    pub modules: usize,
+    pub sites: usize,
+    /// How many annotations have each opcode.
+    pub opcodes: [usize; 14],
+    /// How many of their numbers, opcodes and operands, have each width in bytes.
+    pub widths: [usize; 5],
+}
+
+impl Totals {
+    pub fn text(&self) -> String {
+        let mut lines = vec![
+            ("files".to_string(), self.files),
+            ("streams".to_string(), self.streams),
+            ("empty".to_string(), self.empty),
+            ("absent".to_string(), self.absent),
+            ("slices".to_string(), self.slices),
+            ("pages".to_string(), self.pages),
+            ("bytes".to_string(), self.bytes),
+            ("modules".to_string(), self.modules),
+            ("sites".to_string(), self.sites),
+            ("annotations".to_string(), self.opcodes.iter().sum()),
+        ];
+        lines.extend((1..14).map(|opcode| (format!("opcode-{opcode}"), self.opcodes[opcode])));
+        lines.extend([1, 2, 4].map(|width| (format!("{width}-byte"), self.widths[width])));
+        lines.iter().map(|(name, count)| format!("{name} {count}\n")).collect()
+    }
+}
