@@ -13,6 +13,13 @@
 //!                                      answers depend on, of which pdb must answer the same
 //!     oracle file-msf NAME             a file that the tests of the listing program use
 //!     oracle listing-msf               reads a file, and prints the listing that pdb's answers make
+//!
+//! With the feature `ours` our library is asked too, through the crate `trovespan`:
+//!
+//!     oracle compare SUBJECT SEED COUNT  compares our answers with pdb's to the questions of that live
+//!                                        list. SUBJECT is annotations, msf or isolation
+//!     oracle compare SUBJECT             the same of the fixed list, which isolation has not
+//!     oracle compare-altered N ..        the same, with our answer to record N made wrong
 
 use std::io::{self, BufWriter, Read, Write};
 
@@ -42,6 +49,8 @@ mod tpi {
 // Our own.
 mod annotations;
 mod buffer;
+#[cfg(feature = "ours")]
+mod compare;
 mod container;
 mod digest;
 mod random;
@@ -49,7 +58,9 @@ mod records;
 
 const USAGE: &str = "usage: oracle record | live SEED COUNT | show N | alter N, \
                      or the same with -msf or -buffer after the first word, \
-                     or isolation-msf SEED COUNT | file-msf NAME | listing-msf";
+                     or isolation-msf SEED COUNT | file-msf NAME | listing-msf, \
+                     or with the feature ours compare annotations|msf|isolation [SEED COUNT] \
+                     | compare-altered N annotations|msf|isolation [SEED COUNT]";
 
 fn main() {
     let words: Vec<String> = std::env::args().skip(1).collect();
@@ -67,31 +78,60 @@ fn answer(words: &[&str], out: &mut impl Write) -> io::Result<()> {
             annotations::write(annotations::live(number(seed), number(count)), out)?
         }
         ["show", n] => out.write_all(annotations::show(&read(), number(n) as usize).as_bytes())?,
-        ["alter", n] => {
-            out.write_all(&annotations::LAYOUT.altered(&read(), number(n) as usize))?
-        }
+        ["alter", n] => out.write_all(&annotations::LAYOUT.altered(&read(), number(n) as usize))?,
         ["record-msf"] => container::write(container::fixed(), out)?,
         ["live-msf", seed, count] => {
             container::write(container::live(number(seed), number(count)), out)?
         }
-        ["show-msf", n] => out.write_all(container::show(&read(), number(n) as usize).as_bytes())?,
-        ["alter-msf", n] => out.write_all(&container::altered(&read(), number(n) as usize))?,
-        ["isolation-msf", seed, count] => {
-            container::write_pairs(number(seed), number(count), out)?
+        ["show-msf", n] => {
+            out.write_all(container::show(&read(), number(n) as usize).as_bytes())?
         }
+        ["alter-msf", n] => out.write_all(&container::altered(&read(), number(n) as usize))?,
+        ["isolation-msf", seed, count] => container::write_pairs(number(seed), number(count), out)?,
         ["file-msf", name] => out.write_all(&container::named(name))?,
         ["listing-msf"] => out.write_all(container::listed(&read()).as_bytes())?,
         ["record-buffer"] => buffer::write(buffer::fixed(), out)?,
         ["live-buffer", seed, count] => {
             buffer::write(buffer::live(number(seed), number(count)), out)?
         }
-        ["show-buffer", n] => out.write_all(buffer::show(&read(), number(n) as usize).as_bytes())?,
+        ["show-buffer", n] => {
+            out.write_all(buffer::show(&read(), number(n) as usize).as_bytes())?
+        }
         ["alter-buffer", n] => {
             out.write_all(&buffer::LAYOUT.altered(&read(), number(n) as usize))?
         }
+        #[cfg(feature = "ours")]
+        ["compare", ref asked @ ..] => compare(asked, None, out)?,
+        #[cfg(feature = "ours")]
+        ["compare-altered", n, ref asked @ ..] => compare(asked, Some(number(n) as usize), out)?,
         _ => stop(USAGE),
     }
     out.flush()
+}
+
+/// Compares our answers with pdb's.
+#[cfg(feature = "ours")]
+fn compare(asked: &[&str], altered: Option<usize>, out: &mut impl Write) -> io::Result<()> {
+    let mut comparison = compare::Comparison::new(altered);
+    match *asked {
+        ["annotations"] => annotations::compare(annotations::fixed().into_iter(), &mut comparison),
+        ["annotations", seed, count] => {
+            let questions = annotations::live(number(seed), number(count));
+            annotations::compare(questions, &mut comparison)
+        }
+        ["msf"] => container::compare(container::fixed(), &mut comparison),
+        ["msf", seed, count] => container::compare(
+            container::live(number(seed), number(count)),
+            &mut comparison,
+        ),
+        ["isolation", seed, count] => {
+            container::judged_pairs(number(seed), number(count), |records| {
+                container::compare(records, &mut comparison)
+            })
+        }
+        _ => stop(USAGE),
+    }
+    comparison.report(out)
 }
 
 fn number(word: &str) -> u64 {

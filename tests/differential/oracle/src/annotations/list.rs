@@ -6,7 +6,8 @@
 
 use std::io::{self, Write};
 
-use super::answers;
+use super::answers::{self, Answer, Library};
+use super::pdb::Pdb;
 use crate::digest::Digest;
 use crate::records::{number, Layout};
 
@@ -40,17 +41,23 @@ impl Question {
         (0..=255).map(|last| [prefix, &[last]].concat()).collect()
     }
 
+    /// What a library answers of one of the strings.
+    pub fn answer<L: Library>(&self, bytes: &[u8]) -> Answer {
+        let mut answer = Answer::new();
+        answers::number::<L>(bytes, self.at, &mut answer);
+        answers::steps::<L>(bytes, self.at, &mut answer);
+        for room in self.low..=self.high {
+            answers::decode::<L>(bytes, room, &mut answer);
+        }
+        answer
+    }
+
     /// The digest of all that pdb answers.
     pub fn digest(&self) -> Digest {
         let mut digest = Digest::default();
         for bytes in self.strings() {
-            digest.mix_all(&answers::number(&bytes, self.at));
-            for step in answers::steps(&bytes, self.at) {
-                digest.mix_all(&step);
-            }
-            let decoded = answers::decode(&bytes);
-            for room in self.low..=self.high {
-                digest.mix_all(&decoded.into_room(room));
+            for (_, words) in self.answer::<Pdb>(&bytes) {
+                digest.mix_all(&words);
             }
         }
         digest

@@ -1,12 +1,19 @@
 //! Lists of questions about binary annotations.
 
 mod answers;
+#[cfg(feature = "ours")]
+mod compare;
 mod list;
+#[cfg(feature = "ours")]
+mod ours;
+mod pdb;
 mod programs;
 mod questions;
 mod rules;
 mod show;
 
+#[cfg(feature = "ours")]
+pub use compare::compare;
 pub use list::{write, LAYOUT};
 pub use questions::{fixed, live};
 pub use show::record as show;

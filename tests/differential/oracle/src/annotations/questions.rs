@@ -1,7 +1,7 @@
 //! Which questions a list asks: the fixed list, and a live one of any seed and length.
 
-use super::answers;
 use super::list::{Question, LARGEST_ROOM, LONGEST};
+use super::pdb::needed;
 use super::{programs, rules};
 use crate::random::Random;
 
@@ -164,7 +164,7 @@ fn ask(bytes: Vec<u8>, random: &mut Random, questions: &mut Vec<Question>) {
 
 /// Rooms one too small, just enough and one larger.
 fn around_needed(bytes: Vec<u8>, at: usize) -> Question {
-    let needed = answers::decode(&bytes).needed();
+    let needed = needed(&bytes);
     Question {
         bytes,
         at,

@@ -1,8 +1,9 @@
 //! Questions about one base file.
 
-use super::answers;
+use super::answers::bytes;
 use super::list::{Record, MOST_BYTES, MOST_ENTRIES};
 use super::listing::listing;
+use super::pdb;
 use super::question::{Question, Rooms, Run, Start, Sweep, COUNT, EXTRACT, LIST, MAP, OPEN};
 
 /// Stores that take what small streams answer.
@@ -145,7 +146,7 @@ impl About {
     /// The slices and bytes of the mapping, where there is one.
     pub fn needed(&self, question: &Question) -> Option<(usize, usize)> {
         let file = question.files(&self.base).pop()?;
-        let slices = answers::slices(&file, question.stream, question.limit)?.ok()?;
+        let slices = pdb::slices(&file, question.stream, bytes(question.limit))?.ok()?;
         let bytes = slices.iter().map(|slice| slice.size).sum();
         Some((slices.len(), bytes))
     }

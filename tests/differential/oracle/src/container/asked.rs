@@ -1,5 +1,6 @@
 //! A question as a list has it: with the digest of pdb's answers, and without what pdb cannot answer.
 
+use super::pdb::Pdb;
 use super::question::{Question, Sweep};
 use crate::digest::Digest;
 
@@ -14,7 +15,7 @@ pub struct Asked {
 pub fn asked(question: &Question, base: &[u8], skipped: &mut usize) -> Vec<Asked> {
     let mut pieces: Vec<Asked> = Vec::new();
     for (i, file) in question.files(base).iter().enumerate() {
-        let answers = question.answers(file);
+        let answers = question.answers::<Pdb>(file);
         let operations = answers
             .iter()
             .filter(|(_, answer)| answer.is_some())

@@ -7,6 +7,7 @@ use super::files::SMALL_MAGIC;
 use super::list::{self, Record};
 use super::listed::{listed, other_pages};
 use super::live::live;
+use super::pdb::Pdb;
 use super::question::{Question, COUNT, EXTRACT, MAP, OPEN};
 use crate::random::Random;
 
@@ -29,12 +30,24 @@ struct Figures {
     leaks: Vec<usize>,
 }
 
-/// Writes the list of `count` pairs, made of the files of a live list. Says how many bytes differ in
-/// them, and stops where pdb's answers do, or where there are no such pairs.
+/// Writes the list of `count` pairs.
 pub fn write(seed: u64, count: u64, out: &mut impl Write) -> io::Result<()> {
+    judged(seed, count, |records| {
+        list::write(records, out)?;
+        out.flush()
+    })
+}
+
+/// Hands on the records of `count` pairs, made of the files of a live list. Says how many bytes
+/// differ in them, and stops where pdb's answers do, or where there are no such pairs.
+pub fn judged<T>(
+    seed: u64,
+    count: u64,
+    take: impl FnOnce(&mut dyn Iterator<Item = Record>) -> T,
+) -> T {
     let mut random = Random::new(!seed);
     let mut figures = Figures::default();
-    let records = files(seed, count)
+    let mut records = files(seed, count)
         .filter_map(|(mut file, question)| {
             put_small_magic(&mut random, &mut file);
             pair(&mut random, file, question)
@@ -44,10 +57,10 @@ pub fn write(seed: u64, count: u64, out: &mut impl Write) -> io::Result<()> {
             figures.add(&pair);
             pair.records()
         });
-    list::write(records, out)?;
-    out.flush()?;
+    let taken = take(&mut records);
+    drop(records);
     figures.judge(count);
-    Ok(())
+    taken
 }
 
 /// The files of a live list, sound and damaged, and the question about each as it then is.
@@ -122,7 +135,7 @@ impl Pair {
     }
 
     fn leaks(&self) -> bool {
-        self.question.answers(&self.first) != self.question.answers(&self.second)
+        self.question.answers::<Pdb>(&self.first) != self.question.answers::<Pdb>(&self.second)
     }
 
     fn records(self) -> Vec<Record> {

@@ -1,8 +1,9 @@
 //! The listing of a file, made of what pdb answers: its count, and each stream's mapping. The text,
 //! the parts and refusal 11 are the project's own rules, and written here from these alone.
 
-use super::answers::{counted, refusal, untouched, Answer, Directory, SHORT_DATA};
+use super::answers::{untouched, Answer};
 use super::hostile;
+use super::pdb::{counted, refusal, Directory, SHORT_DATA};
 use super::source::{open, Reading};
 use crate::common::{Error, Result};
 use crate::digest::Word::{Byte, Plain};

@@ -3,6 +3,8 @@
 mod answers;
 mod ask;
 mod asked;
+#[cfg(feature = "ours")]
+mod compare;
 mod damage;
 mod file_f;
 mod files;
@@ -14,6 +16,9 @@ mod listed;
 mod listing;
 mod listings;
 mod live;
+#[cfg(feature = "ours")]
+mod ours;
+mod pdb;
 mod question;
 mod rules;
 mod shapes;
@@ -21,7 +26,11 @@ mod show;
 mod source;
 mod steps;
 
+#[cfg(feature = "ours")]
+pub use compare::compare;
 pub use fixed::fixed;
+#[cfg(feature = "ours")]
+pub use isolation::judged as judged_pairs;
 pub use isolation::write as write_pairs;
 pub use list::{altered, write};
 pub use listing::whole as listed;

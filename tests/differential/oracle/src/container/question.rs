@@ -1,8 +1,7 @@
 //! A question about a container: a base file's edited copy, and what is asked of it.
 
-use super::answers;
+use super::answers::{self, Answer, Library};
 use super::listing::{listing, Place};
-use crate::digest::Word;
 
 // The operations that a question asks for, as bits.
 pub const OPEN: u8 = 1;
@@ -84,18 +83,19 @@ impl Question {
         }
     }
 
-    /// What pdb answers of a file, operation by operation, with `None` where it has no answer.
-    pub fn answers(&self, file: &[u8]) -> Vec<(u8, Option<Vec<Word>>)> {
+    /// What a library answers of a file, operation by operation, with `None` where it has no answer.
+    /// A listing is made of pdb's answers, whichever library is asked.
+    pub fn answers<L: Library>(&self, file: &[u8]) -> Vec<(u8, Option<Answer>)> {
         let Rooms {
             offsets,
             sizes,
             bytes,
         } = self.rooms;
         let ask = |operation| match operation {
-            OPEN => Some(answers::open(file)),
-            COUNT => answers::count(file),
-            MAP => answers::map(file, self.stream, self.limit, (offsets, sizes)),
-            EXTRACT => answers::extract(file, self.stream, self.limit, bytes),
+            OPEN => Some(answers::open::<L>(file)),
+            COUNT => answers::count::<L>(file),
+            MAP => answers::map::<L>(file, self.stream, self.limit, (offsets, sizes)),
+            EXTRACT => answers::extract::<L>(file, self.stream, self.limit, bytes),
             _ => listing(file).map(|listing| listing.answer(self.place(), bytes)),
         };
         [OPEN, COUNT, MAP, EXTRACT, LIST]

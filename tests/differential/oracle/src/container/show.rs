@@ -4,6 +4,7 @@ use std::fmt::Write;
 
 use super::list;
 use super::listing::whole;
+use super::pdb::Pdb;
 use super::question::{Question, COUNT, EXTRACT, LIST, MAP, OPEN};
 use crate::digest::{text, Digest};
 
@@ -21,44 +22,52 @@ fn show(
     recorded: Digest,
     out: &mut String,
 ) -> std::fmt::Result {
-    writeln!(
-        out,
-        "record {}: a base file of {} bytes, asked at {}",
-        n,
-        base.len(),
-        question.length
-    )?;
-    for edit in &question.edits {
-        writeln!(out, "edit at {}: {:02x?}", edit.at, edit.bytes)?;
-    }
-    writeln!(
-        out,
-        "stream {}, limit {:?}, {:?}, a listing from {:?} on",
-        question.stream, question.limit, question.rooms, question.from
-    )?;
-    let mut asked = Digest::default();
+    write!(out, "record {}: {}", n, asked(question, base))?;
+    writeln!(out, "a listing from {:?} on", question.from)?;
+    let mut digest = Digest::default();
     for (i, file) in question.files(base).iter().enumerate() {
-        if let Some(sweep) = question.sweep {
-            writeln!(
-                out,
-                "byte {} is {:02x}",
-                sweep.at,
-                usize::from(sweep.first) + i
-            )?;
-        }
-        for (operation, answer) in question.answers(file) {
+        out.push_str(&swept(question, i));
+        for (operation, answer) in question.answers::<Pdb>(file) {
             let words = answer.unwrap_or_default();
-            asked.mix_all(&words);
+            digest.mix_all(&words);
             writeln!(out, "  {}: {}", name(operation), text(&words))?;
             if operation == LIST {
                 writeln!(out, "  listing:\n{}", whole(file))?;
             }
         }
     }
-    writeln!(out, "recorded {:?}\nthe Rust {:?}", recorded, asked)
+    writeln!(out, "recorded {:?}\nthe Rust {:?}", recorded, digest)
 }
 
-fn name(operation: u8) -> &'static str {
+/// What is asked of which base file, but for the listing.
+pub fn asked(question: &Question, base: &[u8]) -> String {
+    let mut text = format!(
+        "a base file of {} bytes, asked at {}\n",
+        base.len(),
+        question.length
+    );
+    for edit in &question.edits {
+        text += &format!("edit at {}: {:02x?}\n", edit.at, edit.bytes);
+    }
+    text + &format!(
+        "stream {}, limit {:?}, {:?}\n",
+        question.stream, question.limit, question.rooms
+    )
+}
+
+/// The byte that a sweep has at the question's `i`th file.
+pub fn swept(question: &Question, i: usize) -> String {
+    match question.sweep {
+        None => String::new(),
+        Some(sweep) => format!(
+            "byte {} is {:02x}\n",
+            sweep.at,
+            usize::from(sweep.first) + i
+        ),
+    }
+}
+
+pub fn name(operation: u8) -> &'static str {
     match operation {
         OPEN => "open",
         COUNT => "count",

@@ -1,0 +1,22 @@
+//! Our answers about annotations beside pdb's.
+
+use super::answers::Part;
+use super::list::Question;
+use super::ours::Ours;
+use super::pdb::Pdb;
+use super::show::{asked, hex};
+use crate::compare::Comparison;
+
+pub fn compare(questions: impl Iterator<Item = Question>, comparison: &mut Comparison) {
+    for (n, question) in questions.enumerate() {
+        for bytes in question.strings() {
+            let ours = question.answer::<Ours>(&bytes);
+            let mut theirs = question.answer::<Pdb>(&bytes);
+            // Our crate does not say it.
+            theirs.retain(|(part, _)| *part != Part::Emits);
+            comparison.compare(n, ours, theirs, || {
+                format!("{}\n{}\n", asked(&question), hex(&bytes))
+            });
+        }
+    }
+}

@@ -1,0 +1,48 @@
+//! What our library answers, through the crate `trovespan`.
+
+use super::answers::{Library, Refusal, Step};
+
+pub struct Ours;
+
+impl Library for Ours {
+    fn number(bytes: &[u8], at: usize) -> (Result<u32, Refusal>, usize) {
+        let (value, place) = trovespan::number(bytes, at);
+        (value.map_err(refusal), place)
+    }
+
+    fn steps(bytes: &[u8], at: usize) -> Vec<(Step, usize)> {
+        let mut steps = Vec::new();
+        let mut place = at;
+        // Each step but the end takes a byte. If one did not, this would stop all the same.
+        while steps.len() <= bytes.len() {
+            let (step, next) = trovespan::step(bytes, place);
+            let end = step == trovespan::Step::End;
+            steps.push((by_the_rules(step), next));
+            if end {
+                break;
+            }
+            place = next;
+        }
+        steps
+    }
+
+    fn decode(bytes: &[u8], store: &mut [i64]) -> Result<usize, (Refusal, Option<usize>)> {
+        trovespan::decode(bytes, store).map_err(|why| (refusal(why.refusal), why.place))
+    }
+}
+
+fn by_the_rules(step: trovespan::Step) -> Step {
+    match step {
+        trovespan::Step::Annotation {
+            opcode,
+            first,
+            second,
+        } => Step::Annotation([i64::from(opcode), first, second], None),
+        trovespan::Step::End => Step::End,
+        trovespan::Step::Refused(why) => Step::Refused(refusal(why)),
+    }
+}
+
+fn refusal(why: trovespan::Refusal) -> Refusal {
+    (u64::from(why.number), why.value)
+}

@@ -1,0 +1,149 @@
+//! What pdb answers of a container, by the numbers of the project's rules. `None` is an answer that
+//! cannot be had: pdb would make a view of over 1 GiB.
+
+use std::io::{Cursor, ErrorKind};
+
+use super::answers::{Library, Refusal};
+use super::source::{get, Reading};
+use crate::common::{Error, Result};
+use crate::msf::big::BigMSF;
+use crate::msf::open_msf;
+use crate::records::number;
+use crate::source::{Source, SourceSlice};
+
+// The refusals.
+const UNRECOGNIZED_FILE_FORMAT: u64 = 1;
+const UNIMPLEMENTED_FEATURE: u64 = 2;
+const INVALID_PAGE_SIZE: u64 = 3;
+const PAGE_REFERENCE_OUT_OF_RANGE: u64 = 4;
+const STREAM_NOT_FOUND: u64 = 5;
+const FILE_ENDS: u64 = 6;
+pub const SHORT_DATA: u64 = 7;
+/// The rules' own refusal, which pdb lacks.
+const NO_ROOM: u64 = 10;
+
+const HEADER_BLOCK: usize = 4096;
+
+pub struct Pdb;
+
+impl Library for Pdb {
+    fn open(file: &[u8]) -> std::result::Result<(u64, u64), Refusal> {
+        opened(file).map_err(|error| refusal(&error))
+    }
+
+    fn count(file: &[u8]) -> Option<std::result::Result<u64, Refusal>> {
+        let counted = counted(file)?.map(|directory| directory.streams);
+        Some(counted.map_err(|error| refusal(&error)))
+    }
+
+    fn map(
+        file: &[u8],
+        stream: u32,
+        limit: Option<usize>,
+        offsets: &mut [u64],
+        sizes: &mut [u64],
+    ) -> Option<std::result::Result<(usize, usize), Refusal>> {
+        Some(match slices(file, stream, limit)? {
+            Err(error) => Err(refusal(&error)),
+            Ok(slices) if slices.len() > offsets.len().min(sizes.len()) => no_room(slices.len()),
+            Ok(slices) => {
+                for (i, slice) in slices.iter().enumerate() {
+                    offsets[i] = slice.offset;
+                    sizes[i] = slice.size as u64;
+                }
+                let length = slices.iter().map(|slice| slice.size).sum();
+                Ok((slices.len(), length))
+            }
+        })
+    }
+
+    fn extract(
+        file: &[u8],
+        stream: u32,
+        limit: Option<usize>,
+        out: &mut [u8],
+    ) -> Option<std::result::Result<usize, Refusal>> {
+        let (got, seen) = get(file, stream, limit, Reading::Streams);
+        if seen.over {
+            return None;
+        }
+        Some(match got {
+            Err(error) => Err(refusal(&error)),
+            Ok(stream) if stream.len() > out.len() => no_room(stream.len()),
+            Ok(stream) => {
+                out[..stream.len()].copy_from_slice(&stream);
+                Ok(stream.len())
+            }
+        })
+    }
+}
+
+fn no_room<T>(needed: usize) -> std::result::Result<T, Refusal> {
+    Err((NO_ROOM, needed as u64))
+}
+
+fn opened(file: &[u8]) -> Result<(u64, u64)> {
+    open_msf(Cursor::new(file))?;
+    // What `open_msf` hands out hides its header, so it is made once more, as `open_msf` makes it.
+    let mut source = Cursor::new(file);
+    let block = source.view(&[SourceSlice {
+        offset: 0,
+        size: HEADER_BLOCK,
+    }])?;
+    let header = BigMSF::new(source, block)?.header;
+    Ok((
+        header.page_size as u64,
+        u64::from(header.maximum_valid_page_number),
+    ))
+}
+
+/// A directory that holds its count.
+pub struct Directory {
+    pub streams: u64,
+    /// In bytes.
+    pub size: u64,
+}
+
+/// The directory's first word is the count. pdb has no such function; any stream that is asked for
+/// has the directory read, and too short a directory refused.
+pub fn counted(file: &[u8]) -> Option<Result<Directory>> {
+    let (got, seen) = get(file, 0, Some(0), Reading::OnlyTheTable);
+    if seen.over {
+        return None;
+    }
+    let size = seen.directory_size as u64;
+    Some(match (seen.directory, got) {
+        (Some(word), _) if word.len() == 4 => Ok(Directory {
+            streams: number(&word),
+            size,
+        }),
+        (_, Err(error)) => Err(error),
+        (_, Ok(_)) => crate::stop("pdb finds a stream in a directory that has no count"),
+    })
+}
+
+/// A stream's slices, cut to the limit.
+pub fn slices(file: &[u8], stream: u32, limit: Option<usize>) -> Option<Result<Vec<SourceSlice>>> {
+    let (got, seen) = get(file, stream, limit, Reading::OnlyTheTable);
+    if seen.over {
+        return None;
+    }
+    Some(got.map(|_| seen.slices))
+}
+
+pub fn refusal(error: &Error) -> Refusal {
+    let (number, value) = match error {
+        Error::UnrecognizedFileFormat => (UNRECOGNIZED_FILE_FORMAT, 0),
+        Error::UnimplementedFeature(_) => (UNIMPLEMENTED_FEATURE, 0),
+        Error::InvalidPageSize(size) => (INVALID_PAGE_SIZE, *size),
+        Error::PageReferenceOutOfRange(page) => (PAGE_REFERENCE_OUT_OF_RANGE, *page),
+        Error::StreamNotFound(stream) => (STREAM_NOT_FOUND, *stream),
+        Error::IoError(e) if e.kind() == ErrorKind::UnexpectedEof => (FILE_ENDS, 0),
+        Error::UnexpectedEof | Error::ScrollError(_) => (SHORT_DATA, 0),
+        other => crate::stop(&format!(
+            "pdb refuses with {:?}, which has no number",
+            other
+        )),
+    };
+    (number, u64::from(value))
+}
