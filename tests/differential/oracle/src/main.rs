@@ -20,6 +20,7 @@
 //!                                        list. SUBJECT is annotations, msf or isolation
 //!     oracle compare SUBJECT             the same of the fixed list, which isolation has not
 //!     oracle compare-altered N ..        the same, with our answer to record N made wrong
+//!     oracle bench                       how long both take (`bench/run`)
 
 use std::io::{self, BufWriter, Read, Write};
 
@@ -48,6 +49,9 @@ mod tpi {
 
 // Our own.
 mod annotations;
+#[cfg(feature = "ours")]
+#[path = "../../../../bench/bench.rs"]
+mod bench;
 mod buffer;
 #[cfg(feature = "ours")]
 mod compare;
@@ -60,7 +64,7 @@ const USAGE: &str = "usage: oracle record | live SEED COUNT | show N | alter N, 
                      or the same with -msf or -buffer after the first word, \
                      or isolation-msf SEED COUNT | file-msf NAME | listing-msf, \
                      or with the feature ours compare annotations|msf|isolation [SEED COUNT] \
-                     | compare-altered N annotations|msf|isolation [SEED COUNT]";
+                     | compare-altered N annotations|msf|isolation [SEED COUNT] | bench";
 
 fn main() {
     let words: Vec<String> = std::env::args().skip(1).collect();
@@ -104,6 +108,8 @@ fn answer(words: &[&str], out: &mut impl Write) -> io::Result<()> {
         ["compare", ref asked @ ..] => compare(asked, None, out)?,
         #[cfg(feature = "ours")]
         ["compare-altered", n, ref asked @ ..] => compare(asked, Some(number(n) as usize), out)?,
+        #[cfg(feature = "ours")]
+        ["bench"] => bench::run(out)?,
         _ => stop(USAGE),
     }
     out.flush()

@@ -15,5 +15,7 @@ mod show;
 #[cfg(feature = "ours")]
 pub use compare::compare;
 pub use list::{write, LAYOUT};
+#[cfg(feature = "ours")]
+pub use pdb::triple;
 pub use questions::{fixed, live};
 pub use show::record as show;

@@ -28,6 +28,8 @@ mod steps;
 
 #[cfg(feature = "ours")]
 pub use compare::compare;
+#[cfg(feature = "ours")]
+pub use files::{need, stream, Container};
 pub use fixed::fixed;
 #[cfg(feature = "ours")]
 pub use isolation::judged as judged_pairs;

@@ -1,0 +1,94 @@
+//! Ours through the crate `trovespan` beside pdb's own code, on the same inputs in one process.
+//! Built into the oracle of `tests/differential`, which has pdb's code; `bench/run` builds and runs
+//! it.
+//!
+//! Both have the file in memory. Ours answers into stores that are lent to it and cleared before
+//! each run. What pdb makes anew for an answer is made, and dropped, in its time.
+
+mod cases;
+mod inputs;
+mod timing;
+
+use std::io::{self, Write};
+
+use cases::{cases, Case};
+use timing::{measure, Runs, Stores, RUNS};
+
+const HEAD: &str = "# X and Y are the time of a call, or how many million bytes of the stream or \
+                    of the annotations a second; R is how many times as quick ours is";
+
+pub fn run(out: &mut impl Write) -> io::Result<()> {
+    writeln!(out, "{}", HEAD)?;
+    writeln!(out, "# The median of {} runs", RUNS)?;
+    let mut stores = Stores::new();
+    let whole = cases(2);
+    let measured: Vec<(Runs, Runs)> = whole.iter().map(|case| both(case, &mut stores)).collect();
+    for (case, (ours, theirs)) in whole.iter().zip(&measured) {
+        write_ratio(out, case, "ratio", ours.median(), theirs.median())?;
+    }
+    writeln!(out, "# The best of them")?;
+    for (case, (ours, theirs)) in whole.iter().zip(&measured) {
+        write_ratio(out, case, "best ratio", ours.best(), theirs.best())?;
+    }
+    writeln!(
+        out,
+        "# How many times as long ours takes as with half as much to do, at best"
+    )?;
+    // Opening has no more to do in a longer file.
+    for (half, whole) in cases(1).iter().zip(&whole).skip(1) {
+        let runs = measure(&[&*half.ours, &*whole.ours], &mut stores);
+        let (half, best) = (runs[0].best(), runs[1].best());
+        let shown = format!("half {}, whole {}", time(half), time(best));
+        writeln!(
+            out,
+            "{} doubling {:.2} ({})",
+            whole.name,
+            best / half,
+            shown
+        )?;
+    }
+    Ok(())
+}
+
+/// Both sides' runs. That they did the same shows in the figures which the calls answer.
+fn both(case: &Case, stores: &mut Stores) -> (Runs, Runs) {
+    if (case.ours)(stores) != (case.theirs)(stores) {
+        crate::stop(&format!(
+            "bench: {}: ours and pdb do not answer the same",
+            case.name
+        ));
+    }
+    let mut runs = measure(&[&*case.ours, &*case.theirs], stores);
+    let theirs = runs.remove(1);
+    (runs.remove(0), theirs)
+}
+
+fn write_ratio(
+    out: &mut impl Write,
+    case: &Case,
+    what: &str,
+    ours: f64,
+    theirs: f64,
+) -> io::Result<()> {
+    let shown = |seconds| match case.bytes {
+        Some(bytes) => format!("{:.1} MB/s", bytes as f64 / seconds / 1e6),
+        None => time(seconds),
+    };
+    writeln!(
+        out,
+        "{} {} {:.3} (ours {}, theirs {})",
+        case.name,
+        what,
+        theirs / ours,
+        shown(ours),
+        shown(theirs)
+    )
+}
+
+fn time(seconds: f64) -> String {
+    match seconds {
+        s if s < 1e-6 => format!("{:.0} ns", s * 1e9),
+        s if s < 1e-3 => format!("{:.1} us", s * 1e6),
+        s => format!("{:.1} ms", s * 1e3),
+    }
+}

@@ -1,0 +1,195 @@
+//! What is measured, and what each side does for it.
+
+use std::cell::RefCell;
+use std::io::{self, Cursor};
+use std::rc::Rc;
+
+use super::inputs::{
+    annotations, in_long_slices, in_single_pages, of_streams, LONGEST_STREAM, MOST_ANNOTATIONS,
+};
+use super::timing::{Call, Stores};
+use crate::annotations::triple;
+use crate::msf::{open_msf, Msf};
+use crate::source::{Source, SourceSlice, SourceView};
+use crate::symbol::annotations::BinaryAnnotations;
+use crate::FallibleIterator;
+
+pub struct Case {
+    pub name: &'static str,
+    /// How many bytes go through a call, where that is what counts.
+    pub bytes: Option<usize>,
+    pub ours: Box<Call>,
+    pub theirs: Box<Call>,
+}
+
+/// The cases, with so many halves of the work. Opening is the first.
+pub fn cases(halves: usize) -> Vec<Case> {
+    let length = LONGEST_STREAM / 2 * halves;
+    let long = in_long_slices(length);
+    let annotations = annotations(MOST_ANNOTATIONS * halves);
+    vec![
+        opening(long),
+        mapping("map-long", long, 0),
+        mapping("map-single", in_single_pages(length), 0),
+        mapping(
+            "map-2000-of-4000",
+            of_streams(2000 * halves),
+            1000 * halves as u32,
+        ),
+        extraction(long, length),
+        steps(annotations),
+        decoding(annotations),
+    ]
+}
+
+/// Ours reads the header in place; pdb a copy of the header block, and keeps what the header says.
+fn opening(file: &'static [u8]) -> Case {
+    Case {
+        name: "open",
+        bytes: None,
+        ours: Box::new(move |_| trovespan::open(file).is_ok().into()),
+        theirs: Box::new(move |_| opened(file).is_some().into()),
+    }
+}
+
+#[inline(never)] // so that what it makes is made, though it is dropped at once
+fn opened(file: &'static [u8]) -> Option<Box<dyn Msf<'static, Cursor<&'static [u8]>>>> {
+    open_msf(Cursor::new(file)).ok()
+}
+
+/// From the file to the stream's slices, in two stores or in a vector: each side opens the file,
+/// finds the directory and the stream in it, and judges its pages. pdb reads copies of the location
+/// list and of the directory.
+fn mapping(name: &'static str, file: &'static [u8], stream: u32) -> Case {
+    Case {
+        name,
+        bytes: None,
+        ours: Box::new(move |stores| {
+            let mapped = trovespan::map(file, stream, None, &mut stores.offsets, &mut stores.sizes);
+            mapped.map_or(0, |mapped| (mapped.slices + mapped.length) as u64)
+        }),
+        theirs: Box::new(move |_| {
+            let slices = Rc::default();
+            let source = Unread {
+                file: Cursor::new(file),
+                views: 0,
+                slices: Rc::clone(&slices),
+            };
+            let got = open_msf(source).and_then(|mut msf| msf.get(stream, None));
+            let length = got.map_or(0, |stream| stream.len());
+            let slices = slices.take();
+            (slices.len() + length) as u64
+        }),
+    }
+}
+
+/// From the file to the stream's bytes: ours copies them into a lent store, pdb into a vector that
+/// it makes, fills with zeros and then reads the slices into, by its own source over a `Cursor`.
+fn extraction(file: &'static [u8], length: usize) -> Case {
+    Case {
+        name: "extract",
+        bytes: Some(length),
+        ours: Box::new(move |stores| {
+            let extracted = trovespan::extract(file, 0, None, &mut stores.bytes);
+            extracted.map_or(0, |length| figure(&stores.bytes[..length]))
+        }),
+        theirs: Box::new(move |_| {
+            let got = open_msf(Cursor::new(file)).and_then(|mut msf| msf.get(0, None));
+            got.map_or(0, |stream| figure(&stream))
+        }),
+    }
+}
+
+/// The length, and a byte of every mebibyte.
+fn figure(stream: &[u8]) -> u64 {
+    let bytes = stream.iter().step_by(1 << 20).map(|&b| u64::from(b));
+    stream.len() as u64 + bytes.sum::<u64>()
+}
+
+/// Step after step to the end, each looked at: ours from place to place, pdb by its iterator.
+fn steps(bytes: &'static [u8]) -> Case {
+    Case {
+        name: "step",
+        bytes: Some(bytes.len()),
+        ours: Box::new(move |_| {
+            let (mut sum, mut place) = (0, 0);
+            while let (
+                trovespan::Step::Annotation {
+                    opcode,
+                    first,
+                    second,
+                },
+                next,
+            ) = trovespan::step(bytes, place)
+            {
+                sum += i64::from(opcode) + first + second;
+                place = next;
+            }
+            sum as u64
+        }),
+        theirs: Box::new(move |_| {
+            let mut sum = 0;
+            let mut iter = BinaryAnnotations::new(bytes).iter();
+            while let Ok(Some(annotation)) = iter.next() {
+                sum += triple(annotation).iter().sum::<i64>();
+            }
+            sum as u64
+        }),
+    }
+}
+
+/// All annotations into a lent store, three entries each. Ours writes nothing before it has judged
+/// all; pdb has no such function, and its side writes each annotation as its iterator comes to it.
+fn decoding(bytes: &'static [u8]) -> Case {
+    Case {
+        name: "decode",
+        bytes: Some(bytes.len()),
+        ours: Box::new(move |stores| {
+            trovespan::decode(bytes, &mut stores.entries).map_or(0, |count| count as u64)
+        }),
+        theirs: Box::new(move |stores| written(bytes, stores)),
+    }
+}
+
+fn written(bytes: &'static [u8], stores: &mut Stores) -> u64 {
+    let mut count = 0;
+    let mut iter = BinaryAnnotations::new(bytes).iter();
+    let mut room = stores.entries.chunks_exact_mut(3);
+    while let (Ok(Some(annotation)), Some(entries)) = (iter.next(), room.next()) {
+        entries.copy_from_slice(&triple(annotation));
+        count += 1;
+    }
+    count
+}
+
+/// pdb's own source over a `Cursor`, but that a stream is not read: its slices are kept, and the
+/// view is of as many other bytes of the file.
+#[derive(Debug)]
+struct Unread {
+    file: Cursor<&'static [u8]>,
+    views: usize,
+    slices: Rc<RefCell<Vec<SourceSlice>>>,
+}
+
+impl<'s> Source<'s> for Unread {
+    fn view(&mut self, slices: &[SourceSlice]) -> Result<Box<dyn SourceView<'s>>, io::Error> {
+        /// Before it pdb asks for the header block, the location list and the directory.
+        const STREAM: usize = 4;
+        self.views += 1;
+        if self.views < STREAM {
+            return self.file.view(slices);
+        }
+        *self.slices.borrow_mut() = slices.to_vec();
+        let length = slices.iter().map(|slice| slice.size).sum();
+        Ok(Box::new(Other(&self.file.get_ref()[..length])))
+    }
+}
+
+#[derive(Debug)]
+struct Other(&'static [u8]);
+
+impl SourceView<'_> for Other {
+    fn as_slice(&self) -> &[u8] {
+        self.0
+    }
+}

@@ -1,0 +1,89 @@
+//! What is read: containers of 4,096-byte pages, and annotations. They are the same at each run,
+//! and stay in memory to the program's end, since a view that pdb is given may not borrow from
+//! anything shorter.
+
+use crate::container::{need, stream, Container};
+use crate::random::Random;
+
+pub const PAGE: usize = 4096;
+pub const LONGEST_STREAM: usize = 32 << 20;
+/// Of 1 MiB: an annotation takes two bytes or more.
+pub const MOST_ANNOTATIONS: usize = (1 << 20) / 2;
+
+const SEED: u64 = 1;
+
+/// How many pages a long slice has: 1 MiB.
+const LONG: u32 = 256;
+
+/// A container whose only stream has so many bytes, in slices of 1 MiB, the last of them first.
+pub fn in_long_slices(size: usize) -> &'static [u8] {
+    container(&[size], |i, pages| {
+        (pages / LONG - 1 - i / LONG) * LONG + i % LONG
+    })
+}
+
+/// The same with a slice for each page.
+pub fn in_single_pages(size: usize) -> &'static [u8] {
+    container(&[size], |i, pages| pages - 1 - i)
+}
+
+/// So many streams, of two pages each.
+pub fn of_streams(count: usize) -> &'static [u8] {
+    container(&vec![PAGE + PAGE / 2; count], |i, _| i)
+}
+
+/// Streams of these sizes. Their pages follow those of the directory; entry i of so many page
+/// entries has the page that `order` says.
+fn container(sizes: &[usize], order: fn(u32, u32) -> u32) -> &'static [u8] {
+    let count: usize = sizes.iter().map(|&size| need(size, PAGE)).sum();
+    let directory = need(4 * (1 + sizes.len() + count), PAGE) as u32;
+    let location = need(4 * directory as usize, PAGE) as u32;
+    let mut after = 1; // the header block
+    let mut take = |pages: u32| {
+        after += pages;
+        after - pages..after
+    };
+    let (entries, location) = (take(location).collect(), take(directory).collect());
+    let first = take(count as u32).start;
+    let mut pages = (0..count as u32).map(|i| first + order(i, count as u32));
+    let streams = sizes.iter().map(|&size| {
+        let own: Vec<u32> = pages.by_ref().take(need(size, PAGE)).collect();
+        stream(size as u32, &own)
+    });
+    let container = Container {
+        page_size: PAGE,
+        streams: streams.collect(),
+        used: after,
+        length: after as usize * PAGE,
+        entries,
+        location,
+    };
+    Box::leak(container.file(&mut Random::new(SEED)).into_boxed_slice())
+}
+
+/// So many bytes of annotations with operands of every form, most of them short, and zeros after
+/// the last.
+pub fn annotations(length: usize) -> &'static [u8] {
+    /// Opcode 12 has two operands.
+    const LONGEST: usize = 1 + 2 * 4;
+    let mut random = Random::new(SEED);
+    let mut bytes = Vec::with_capacity(length);
+    while bytes.len() + LONGEST <= length {
+        let opcode = 1 + random.below(13) as u8;
+        bytes.push(opcode);
+        for _ in 0..if opcode == 12 { 2 } else { 1 } {
+            put_operand(&mut random, &mut bytes);
+        }
+    }
+    bytes.resize(length, 0);
+    Box::leak(bytes.into_boxed_slice())
+}
+
+fn put_operand(random: &mut Random, bytes: &mut Vec<u8>) {
+    let value = random.next() as u32;
+    match random.below(10) {
+        0..=6 => bytes.push(value as u8 & 0x7f),
+        7 | 8 => bytes.extend_from_slice(&(0x8000 | value as u16 & 0x3fff).to_be_bytes()),
+        _ => bytes.extend_from_slice(&(0xc000_0000 | value & 0x1fff_ffff).to_be_bytes()),
+    }
+}

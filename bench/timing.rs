@@ -1,0 +1,90 @@
+//! How long calls take.
+
+use std::time::Instant;
+
+use super::inputs::{LONGEST_STREAM, MOST_ANNOTATIONS, PAGE};
+
+pub const RUNS: usize = 9;
+
+/// A run is of so many calls that it takes this long or longer.
+const SECONDS_A_RUN: f64 = 0.05;
+
+/// What is lent, and takes the answers.
+pub struct Stores {
+    pub offsets: Vec<u64>,
+    pub sizes: Vec<u64>,
+    pub bytes: Vec<u8>,
+    pub entries: Vec<i64>,
+}
+
+/// A call answers a figure, which both sides of a case have in common. The compiler does not see
+/// which call it is, so it leaves out nothing of it.
+pub type Call = dyn Fn(&mut Stores) -> u64;
+
+impl Stores {
+    pub fn new() -> Self {
+        Stores {
+            offsets: vec![0; LONGEST_STREAM / PAGE],
+            sizes: vec![0; LONGEST_STREAM / PAGE],
+            bytes: vec![0; LONGEST_STREAM],
+            entries: vec![0; 3 * MOST_ANNOTATIONS],
+        }
+    }
+
+    fn clear(&mut self) {
+        self.offsets.fill(0);
+        self.sizes.fill(0);
+        self.bytes.fill(0);
+        self.entries.fill(0);
+    }
+}
+
+/// The seconds a call of each run, from the shortest to the longest.
+pub struct Runs(Vec<f64>);
+
+impl Runs {
+    pub fn median(&self) -> f64 {
+        self.0[self.0.len() / 2]
+    }
+
+    pub fn best(&self) -> f64 {
+        self.0[0]
+    }
+}
+
+/// The runs of each call. They take turns, so that what slows the machine for a while slows all.
+pub fn measure(calls: &[&Call], stores: &mut Stores) -> Vec<Runs> {
+    let counts: Vec<u32> = calls.iter().map(|&call| count(call, stores)).collect();
+    let mut runs: Vec<Vec<f64>> = calls.iter().map(|_| Vec::new()).collect();
+    for _ in 0..RUNS {
+        for (i, &call) in calls.iter().enumerate() {
+            runs[i].push(run(call, counts[i], stores) / f64::from(counts[i]));
+        }
+    }
+    runs.into_iter().map(sorted).collect()
+}
+
+fn sorted(mut runs: Vec<f64>) -> Runs {
+    runs.sort_by(|a, b| a.partial_cmp(b).expect("no time is a NaN"));
+    Runs(runs)
+}
+
+/// How many calls a run is of.
+fn count(call: &Call, stores: &mut Stores) -> u32 {
+    let mut count = 1;
+    while run(call, count, stores) < SECONDS_A_RUN {
+        count *= 2;
+    }
+    count
+}
+
+/// The seconds of so many calls, into cleared stores.
+#[inline(never)]
+fn run(call: &Call, count: u32, stores: &mut Stores) -> f64 {
+    stores.clear();
+    let began = Instant::now();
+    for _ in 0..count {
+        call(stores);
+    }
+    began.elapsed().as_secs_f64()
+}
