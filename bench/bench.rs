@@ -12,51 +12,35 @@ mod timing;
 use std::io::{self, Write};
 
 use cases::{cases, Case};
-use timing::{measure, Runs, Stores, RUNS};
+use timing::{measure, Runs, Stores, REFUSED, RUNS};
 
 const HEAD: &str = "# X and Y are the time of a call, or how many million bytes of the stream or \
                     of the annotations a second; R is how many times as quick ours is";
 
 pub fn run(out: &mut impl Write) -> io::Result<()> {
-    writeln!(out, "{}", HEAD)?;
-    writeln!(out, "# The median of {} runs", RUNS)?;
     let mut stores = Stores::new();
-    let whole = cases(2);
-    let measured: Vec<(Runs, Runs)> = whole.iter().map(|case| both(case, &mut stores)).collect();
-    for (case, (ours, theirs)) in whole.iter().zip(&measured) {
+    let cases = cases(2);
+    let runs: Vec<(Runs, Runs)> = cases.iter().map(|case| both(case, &mut stores)).collect();
+    writeln!(out, "{}\n# The median of {} runs", HEAD, RUNS)?;
+    for (case, (ours, theirs)) in cases.iter().zip(&runs) {
         write_ratio(out, case, "ratio", ours.median(), theirs.median())?;
     }
     writeln!(out, "# The best of them")?;
-    for (case, (ours, theirs)) in whole.iter().zip(&measured) {
+    for (case, (ours, theirs)) in cases.iter().zip(&runs) {
         write_ratio(out, case, "best ratio", ours.best(), theirs.best())?;
     }
     writeln!(
         out,
-        "# How many times as long ours takes as with half as much to do, at best"
+        "# Ours: how many times as long as with half as much to do"
     )?;
-    // Opening has no more to do in a longer file.
-    for (half, whole) in cases(1).iter().zip(&whole).skip(1) {
-        let runs = measure(&[&*half.ours, &*whole.ours], &mut stores);
-        let (half, best) = (runs[0].best(), runs[1].best());
-        let shown = format!("half {}, whole {}", time(half), time(best));
-        writeln!(
-            out,
-            "{} doubling {:.2} ({})",
-            whole.name,
-            best / half,
-            shown
-        )?;
-    }
-    Ok(())
+    write_doublings(out, &cases, &mut stores)
 }
 
 /// Both sides' runs. That they did the same shows in the figures which the calls answer.
 fn both(case: &Case, stores: &mut Stores) -> (Runs, Runs) {
-    if (case.ours)(stores) != (case.theirs)(stores) {
-        crate::stop(&format!(
-            "bench: {}: ours and pdb do not answer the same",
-            case.name
-        ));
+    let figures = ((case.ours)(stores), (case.theirs)(stores));
+    if figures.0 == REFUSED || figures.0 != figures.1 {
+        crate::stop(&format!("bench: {} answers {:?}", case.name, figures));
     }
     let mut runs = measure(&[&*case.ours, &*case.theirs], stores);
     let theirs = runs.remove(1);
@@ -74,15 +58,33 @@ fn write_ratio(
         Some(bytes) => format!("{:.1} MB/s", bytes as f64 / seconds / 1e6),
         None => time(seconds),
     };
+    let both = format!("ours {}, theirs {}", shown(ours), shown(theirs));
     writeln!(
         out,
-        "{} {} {:.3} (ours {}, theirs {})",
+        "{} {} {:.3} ({})",
         case.name,
         what,
         theirs / ours,
-        shown(ours),
-        shown(theirs)
+        both
     )
+}
+
+/// The best runs are compared, since they are the least disturbed. Opening has no more to do in a
+/// longer file.
+fn write_doublings(out: &mut impl Write, whole: &[Case], stores: &mut Stores) -> io::Result<()> {
+    for (half, whole) in cases(1).iter().zip(whole).skip(1) {
+        let runs = measure(&[&*half.ours, &*whole.ours], stores);
+        let (before, after) = (runs[0].best(), runs[1].best());
+        let both = format!("half {}, whole {}", time(before), time(after));
+        writeln!(
+            out,
+            "{} doubling {:.2} ({})",
+            whole.name,
+            after / before,
+            both
+        )?;
+    }
+    Ok(())
 }
 
 fn time(seconds: f64) -> String {

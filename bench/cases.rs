@@ -4,10 +4,12 @@ use std::cell::RefCell;
 use std::io::{self, Cursor};
 use std::rc::Rc;
 
+use trovespan::Step;
+
 use super::inputs::{
     annotations, in_long_slices, in_single_pages, of_streams, LONGEST_STREAM, MOST_ANNOTATIONS,
 };
-use super::timing::{Call, Stores};
+use super::timing::{Call, Stores, REFUSED};
 use crate::annotations::triple;
 use crate::msf::{open_msf, Msf};
 use crate::source::{Source, SourceSlice, SourceView};
@@ -66,7 +68,7 @@ fn mapping(name: &'static str, file: &'static [u8], stream: u32) -> Case {
         bytes: None,
         ours: Box::new(move |stores| {
             let mapped = trovespan::map(file, stream, None, &mut stores.offsets, &mut stores.sizes);
-            mapped.map_or(0, |mapped| (mapped.slices + mapped.length) as u64)
+            mapped.map_or(REFUSED, |mapped| (mapped.slices + mapped.length) as u64)
         }),
         theirs: Box::new(move |_| {
             let slices = Rc::default();
@@ -91,11 +93,11 @@ fn extraction(file: &'static [u8], length: usize) -> Case {
         bytes: Some(length),
         ours: Box::new(move |stores| {
             let extracted = trovespan::extract(file, 0, None, &mut stores.bytes);
-            extracted.map_or(0, |length| figure(&stores.bytes[..length]))
+            extracted.map_or(REFUSED, |length| figure(&stores.bytes[..length]))
         }),
         theirs: Box::new(move |_| {
             let got = open_msf(Cursor::new(file)).and_then(|mut msf| msf.get(0, None));
-            got.map_or(0, |stream| figure(&stream))
+            got.map_or(REFUSED, |stream| figure(&stream))
         }),
     }
 }
@@ -112,18 +114,11 @@ fn steps(bytes: &'static [u8]) -> Case {
         name: "step",
         bytes: Some(bytes.len()),
         ours: Box::new(move |_| {
-            let (mut sum, mut place) = (0, 0);
-            while let (
-                trovespan::Step::Annotation {
-                    opcode,
-                    first,
-                    second,
-                },
-                next,
-            ) = trovespan::step(bytes, place)
-            {
-                sum += i64::from(opcode) + first + second;
-                place = next;
+            let mut sum = 0;
+            let mut at = trovespan::step(bytes, 0);
+            while let (Some(entries), place) = (entries(at.0), at.1) {
+                sum += entries.iter().sum::<i64>();
+                at = trovespan::step(bytes, place);
             }
             sum as u64
         }),
@@ -138,6 +133,18 @@ fn steps(bytes: &'static [u8]) -> Case {
     }
 }
 
+/// An annotation's three numbers.
+fn entries(step: Step) -> Option<[i64; 3]> {
+    match step {
+        Step::Annotation {
+            opcode,
+            first,
+            second,
+        } => Some([i64::from(opcode), first, second]),
+        _ => None,
+    }
+}
+
 /// All annotations into a lent store, three entries each. Ours writes nothing before it has judged
 /// all; pdb has no such function, and its side writes each annotation as its iterator comes to it.
 fn decoding(bytes: &'static [u8]) -> Case {
@@ -145,7 +152,7 @@ fn decoding(bytes: &'static [u8]) -> Case {
         name: "decode",
         bytes: Some(bytes.len()),
         ours: Box::new(move |stores| {
-            trovespan::decode(bytes, &mut stores.entries).map_or(0, |count| count as u64)
+            trovespan::decode(bytes, &mut stores.entries).map_or(REFUSED, |count| count as u64)
         }),
         theirs: Box::new(move |stores| written(bytes, stores)),
     }

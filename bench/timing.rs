@@ -6,6 +6,9 @@ use super::inputs::{LONGEST_STREAM, MOST_ANNOTATIONS, PAGE};
 
 pub const RUNS: usize = 9;
 
+/// The figure of a call that is refused.
+pub const REFUSED: u64 = 0;
+
 /// A run is of so many calls that it takes this long or longer.
 const SECONDS_A_RUN: f64 = 0.05;
 
