@@ -1,6 +1,7 @@
 //! The proved library's functions, and all that is unsafe here. A slice crosses as a pointer and a length.
 //!
-//! Nothing checks these declarations against `crates/trovespan/src/lib.rt`; the comparison with pdb calls each of them.
+//! No compiler checks these declarations against `crates/trovespan/src/lib.rt`; `tests/crate/run` does, word by word, and
+//! the comparison with pdb calls each of them.
 #![deny(unsafe_op_in_unsafe_fn)]
 
 mod c {
@@ -18,7 +19,7 @@ mod c {
             sizes: *mut u64,
             sizes_len: usize,
             value: *mut u64,
-            length: *mut u64,
+            total: *mut u64,
         ) -> u32;
         pub fn trovespan_extract(
             file: *const u8,
@@ -72,7 +73,7 @@ pub fn stream_count(file: &[u8]) -> (u32, u64) {
 }
 
 pub fn map(file: &[u8], stream: u32, limit: Option<usize>, offsets: &mut [u64], sizes: &mut [u64]) -> (u32, u64, u64) {
-    let (mut value, mut length) = (0, 0);
+    let (mut value, mut total) = (0, 0);
     let number = unsafe {
         c::trovespan_map(
             file.as_ptr(),
@@ -85,10 +86,10 @@ pub fn map(file: &[u8], stream: u32, limit: Option<usize>, offsets: &mut [u64], 
             sizes.as_mut_ptr(),
             sizes.len(),
             &mut value,
-            &mut length,
+            &mut total,
         )
     };
-    (number, value, length)
+    (number, value, total)
 }
 
 pub fn extract(file: &[u8], stream: u32, limit: Option<usize>, out: &mut [u8]) -> (u32, u64) {

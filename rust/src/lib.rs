@@ -144,9 +144,9 @@ pub fn map(
     offsets: &mut [u64],
     sizes: &mut [u64],
 ) -> Result<Mapped, Refusal> {
-    let (number, value, length) = ffi::map(file, stream, limit, offsets, sizes);
+    let (number, value, total) = ffi::map(file, stream, limit, offsets, sizes);
     accepted(number, value)?;
-    Ok(Mapped { slices: value as usize, length: length as usize })
+    Ok(Mapped { slices: value as usize, length: total as usize })
 }
 
 /// Copies a stream, or its first `limit` bytes, to the front of `out`, and answers how many bytes these are.
