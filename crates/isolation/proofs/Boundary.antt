@@ -1,6 +1,6 @@
 -- Demand 3 at the boundary, as `Isolation` proves it of the operations: a promise about g is one about f, and no second
 -- answer satisfies it.
-use mathlib.Core.Path.{_≡_, sym, _∙_, ap}
+use mathlib.Core.Path.{sym, _∙_}
 use mathlib.Core.List.{List}
 use Prim.Native.Nat.{ℕ, min}
 use lib.ListN.{length}

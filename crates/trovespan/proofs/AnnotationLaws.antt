@@ -1,18 +1,17 @@
 -- The answers about binary annotations as they cross: one law for each kind of answer.
-use mathlib.Core.Path.{_≡_, refl, sym, _∙_, ap}
+use mathlib.Core.Path.{_≡_, sym, _∙_, ap}
 use mathlib.Core.List.{List}
 use mathlib.Core.Option.{some}
 use Prim.Native.Nat.{ℕ}
 use lib.IntN.{ℤ, pos}
 use Rattle.outcome.specs.Outcome.{ok, refused, raise}
-use Rattle.annotations.specs.Refusal.{Stop, stop, refusalIn}
+use Rattle.annotations.specs.Refusal.{stop, refusalIn}
 use Rattle.annotations.specs.Annotation.{tripleIn}
-use Rattle.annotations.specs.Step.{Stepped, annotation, end}
+use Rattle.annotations.specs.Step.{annotation, end}
 use Rattle.annotations.specs.Decode.{DecodeStop, noRoom}
 use Rattle.annotations.specs.Promises.{uncompressedIn, stepIn, decodedIn, Uncompressing, Stepping, Decoding}
 use Rattle.annotations.specs.declared.refusal.Refusal.{Refusal}
 use Rattle.annotations.specs.declared.annotation.Triple.{Triple}
-use Rattle.annotations.specs.declared.annotation.BinaryAnnotation.{BinaryAnnotation}
 use Rattle.annotations.specs.declared.number.Number.{Number}
 use Rattle.annotations.specs.declared.number.Uncompressed.{Uncompressed}
 use Rattle.annotations.specs.declared.number.Uncompressed.the-variants as uncompressed

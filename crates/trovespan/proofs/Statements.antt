@@ -1,6 +1,6 @@
 -- The statements on the exported functions, each proved under the name of its record.
 use mathlib.Core.Path.{_≡_, sym, _∙_}
-use Prim.Native.Nat.{ℕ, _<_}
+use Prim.Native.Nat.{_<_}
 use native.Mathlib.Omega.{arith}
 use Rattle.paged.specs.Refusal as container
 use Rattle.paged.specs.declared.refusal.Refusal as why-container

@@ -4,7 +4,7 @@ use mathlib.Core.List.{List, map}
 use Prim.Native.Nat.{ℕ, min}
 use lib.ListN.{length}
 use lib.IntN.{ℤ, pos}
-use Rattle.outcome.specs.Outcome.{Outcome, raise}
+use Rattle.outcome.specs.Outcome.{raise}
 use Rattle.outcome.specs.Store.{written}
 use Rattle.parse_buffer.specs.Bytes.{File}
 use Rattle.header.specs.Promises.{opening}
