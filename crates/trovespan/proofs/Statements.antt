@@ -1,6 +1,5 @@
 -- The statements on the exported functions, each proved under the name of its record.
 use mathlib.Core.Path.{_≡_, sym, _∙_}
-use Prim.Native.Nat.{_<_}
 use native.Mathlib.Omega.{arith}
 use Rattle.paged.specs.Refusal as container
 use Rattle.paged.specs.declared.refusal.Refusal as why-container
@@ -11,7 +10,7 @@ use Rattle.annotations.specs.declared.refusal.Refusal.the-variants as annotatio
 use Rattle.annotations.specs.Annotation.{tripleIn}
 use Rattle.annotations.specs.declared.annotation.BinaryAnnotation.{BinaryAnnotation}
 use Rattle.annotations.specs.declared.annotation.BinaryAnnotation.the-variants as annotation
-use Rattle.trovespan.specs.Statements.{SingleValued, Apart}
+use Rattle.trovespan.specs.Statements.{SingleValued, NotZero, BelowNoRoom, Apart}
 
 -- two things that are said to be one third are equal
 same : {A : Type 0} {x y z : A} → x ≡ z → y ≡ z → x ≡ y
@@ -37,7 +36,7 @@ single-valued =
     }
 
 -- ---- by each case
-container-apart : (why : why-container.Refusal) → 0 < container.refusalIn why .number
+container-apart : (why : why-container.Refusal) → NotZero (container.refusalIn why .number)
 container-apart container-variants.UnrecognizedFileFormat = omega arith
 container-apart container-variants.UnimplementedFeature = omega arith
 container-apart (container-variants.InvalidPageSize size) = omega arith
@@ -47,12 +46,12 @@ container-apart container-variants.FileEnds = omega arith
 container-apart container-variants.ShortData = omega arith
 container-apart (container-variants.NoRoom needed) = omega arith
 
-annotations-apart : (why : why-annotations.Refusal) → (0 < annotations.refusalIn why .number) × (annotations.refusalIn why .number < 10)
+annotations-apart : (why : why-annotations.Refusal) → NotZero (annotations.refusalIn why .number) × BelowNoRoom (annotations.refusalIn why .number)
 annotations-apart annotations-variants.ShortData = (omega arith, omega arith)
 annotations-apart annotations-variants.InvalidCompressedAnnotation = (omega arith, omega arith)
 annotations-apart (annotations-variants.UnknownBinaryAnnotation opcode) = (omega arith, omega arith)
 
-opcode-apart : (a : BinaryAnnotation) → 0 < tripleIn a .opcode
+opcode-apart : (a : BinaryAnnotation) → NotZero (tripleIn a .opcode)
 opcode-apart (annotation.CodeOffset v) = omega arith
 opcode-apart (annotation.ChangeCodeOffsetBase v) = omega arith
 opcode-apart (annotation.ChangeCodeOffset v) = omega arith

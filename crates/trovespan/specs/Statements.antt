@@ -23,10 +23,17 @@ pub record SingleValued : Type 0 where
   pub step : (s : List ℕ) (at : ℕ) → Only (λ (o : ℕ × ℕ × ℤ × ℤ × ℕ). Steps s at (o .0) (o .1) (o .2) (o .3) (o .4))
   pub decode : (s : List ℕ) (store : List ℤ) → Only (λ (o : ℕ × ℕ × ℕ × List ℤ). Decodes s store (o .0) (o .1) (o .2) (o .3))
 
--- what a caller tells answers apart by: no refusal has number 0, no annotation has opcode 0, and of the refusals of
--- decoding those with a place have a number below 10
+-- not 0, which says that nothing is refused or, of an opcode, that the end is reached
+abbrev pub NotZero : ℕ → Type 0
+NotZero n = 0 < n
+
+-- below 10, the refusal of decoding that has no place
+abbrev pub BelowNoRoom : ℕ → Type 0
+BelowNoRoom n = n < 10
+
+-- what a caller tells answers apart by
 pub record Apart : Type 0 where
-  pub container-refusal : (why : why-container.Refusal) → 0 < container.refusalIn why .number
-  pub annotations-refusal : (why : why-annotations.Refusal) → 0 < annotations.refusalIn why .number
-  pub opcode : (a : BinaryAnnotation) → 0 < tripleIn a .opcode
-  pub placed : (why : why-annotations.Refusal) → annotations.refusalIn why .number < 10
+  pub container-refusal : (why : why-container.Refusal) → NotZero (container.refusalIn why .number)
+  pub annotations-refusal : (why : why-annotations.Refusal) → NotZero (annotations.refusalIn why .number)
+  pub opcode : (a : BinaryAnnotation) → NotZero (tripleIn a .opcode)
+  pub placed : (why : why-annotations.Refusal) → BelowNoRoom (annotations.refusalIn why .number)
