@@ -1,9 +1,4 @@
-pub mod NumberLaws
 pub mod SignedLaws
 pub mod AnnotationLaws
 pub mod StepLaws
-pub mod RunLaws
-pub mod DecodeLaws
-pub mod Cases
-pub mod Told
-pub mod Statements
+pub mod MoveLaws

@@ -1,5 +1,5 @@
 -- The (P) cases of both halves.
-use Rattle.annotations.proofs.Cases as annotations
+use Rattle.annotations_statements.proofs.Cases as annotations
 use Rattle.container.proofs.Cases as container
 use Rattle.isolation.specs.Cases.{Cases}
 

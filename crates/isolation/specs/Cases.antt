@@ -1,5 +1,5 @@
 -- Document 01's (P) cases, both halves in one record.
-use Rattle.annotations.specs.Cases as annotations
+use Rattle.annotations_statements.specs.Cases as annotations
 use Rattle.container.specs.Cases as container
 
 pub record Cases : Type 0 where

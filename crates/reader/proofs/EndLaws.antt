@@ -9,10 +9,10 @@ use lib.Dec.{leb, eqb}
 use lib.ListN.{length}
 use Rattle.outcome.specs.Outcome.{Outcome, ok, refused, _>>=_, _>>_, require}
 use Rattle.outcome.proofs.OutcomeLaws.{by-test}
-use Rattle.annotations.specs.Refusal.{Stop}
-use Rattle.annotations.specs.Number.{numberAt}
+use Rattle.numbers.specs.Refusal.{Stop}
+use Rattle.numbers.specs.Number.{numberAt}
 use Rattle.annotations.specs.Step.{Found, Stepped, annotation, end, operands, stepAt}
-use Rattle.annotations.specs.declared.number.Number.{Number}
+use Rattle.numbers.specs.declared.number.Number.{Number}
 
 -- if the answer is an end, its place is the length
 pub data EndsAt (s : List ℕ) : Outcome Stop Stepped → Type 0 where

@@ -10,7 +10,7 @@ use Rattle.annotations.specs.Step.{end, stepAt}
 use Rattle.annotations.specs.Promises.{stepIn}
 use Rattle.annotations.specs.declared.step.Step.{Step}
 use Rattle.annotations.specs.declared.step.Step.the-variants.{End}
-use Rattle.annotations.proofs.Told.{told}
+use Rattle.annotations_statements.proofs.Told.{told}
 use Rattle.reader.specs.Place.{placeAfter}
 use Rattle.reader.specs.Promises.{Moving}
 use Rattle.reader.specs.Statements.{SingleValued, StaysAtTheEnd, Called, none, more, stepsFrom, placeFrom, Calling}

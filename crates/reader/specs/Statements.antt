@@ -6,7 +6,7 @@ use lib.ListN.{length}
 use denote.Ref.{RefT, now}
 use Rattle.outcome.specs.Outcome.{Outcome}
 use Rattle.outcome.specs.Only.{Only, Only₂}
-use Rattle.annotations.specs.Refusal.{Stop}
+use Rattle.numbers.specs.Refusal.{Stop}
 use Rattle.annotations.specs.Step.{Stepped, stepAt}
 use Rattle.annotations.specs.Promises.{stepIn}
 use Rattle.annotations.specs.declared.step.Step.{Step}

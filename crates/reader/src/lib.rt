@@ -9,6 +9,7 @@ ghost use mathlib.Core.Path.{_≡_};
 ghost use Rattle.annotations.specs.Promises.{stepIn};
 ghost use Rattle.reader.specs.Place.{placeAfter};
 ghost use Rattle.reader.specs.Promises.{Starting, Moving, MovingAt};
+ghost use Rattle.reader.specs.Statements.{SingleValued, StaysAtTheEnd, Calling};
 
 pub struct BinaryAnnotationsIter<'a> {
     bytes: &'a [u8],
@@ -58,3 +59,10 @@ fn place_after(step: Step) -> usize
         Step::Refused(_, place) => place,
     }
 }
+
+// Each statement of this crate, as a promise that must be proved: none can vanish unnoticed.
+pub fn proved()
+    ensures { λ r. ⌜ SingleValued ⌝ }
+    ensures { λ r. ⌜ StaysAtTheEnd ⌝ }
+    ensures { λ r. ⌜ Calling ⌝ }
+{}

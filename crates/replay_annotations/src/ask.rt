@@ -1,9 +1,9 @@
 // One question to the library, and the digest of what it answers: the number and the steps at a place, the steps in both
 // forms, and all of the bytes decoded into stores of several rooms. Each answer begins with the number of its case.
-use annotations::Decoded;
-use annotations::Refusal;
 use annotations::Step;
-use annotations::Uncompressed;
+use decode::Decoded;
+use numbers::Refusal;
+use numbers::Uncompressed;
 use replay::Digest;
 
 const NUMBER: u64 = 1;
@@ -43,7 +43,7 @@ pub fn answer(d: Digest, q: Question, bytes: &[u8], store: &mut [i64]) -> Digest
 
 // The number at a place.
 fn number(d: Digest, bytes: &[u8], at: usize) -> Digest {
-    match annotations::uncompress_next(bytes, at) {
+    match numbers::uncompress_next(bytes, at) {
         Uncompressed::Value(n) => d.plain(NUMBER).plain(n.value as u64).plain(n.next as u64),
         Uncompressed::Refused(why, place) => refused(d, NUMBER_REFUSED, why, place),
     }
@@ -156,7 +156,7 @@ fn in_room(d: Digest, bytes: &[u8], store: &mut [i64], room: usize) -> Digest {
 // The answer, and then the whole store, so that an entry that was written and should not have been shows.
 fn decoded(d: Digest, bytes: &[u8], store: &mut [i64]) -> Digest {
     clear(store);
-    let answered = match annotations::decode_all(bytes, store) {
+    let answered = match decode::decode_all(bytes, store) {
         Decoded::Count(n) => d.plain(ALL_DECODED).plain(n as u64),
         Decoded::Refused(why, place) => refused(d, ALL_REFUSED, why, place),
         Decoded::NoRoom(needed) => d.plain(NO_ROOM).plain(NO_ROOM_REFUSAL).plain(needed as u64),

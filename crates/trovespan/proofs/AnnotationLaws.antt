@@ -5,21 +5,23 @@ use mathlib.Core.Option.{some}
 use Prim.Native.Nat.{ℕ}
 use lib.IntN.{ℤ, pos}
 use Rattle.outcome.specs.Outcome.{ok, refused, raise}
-use Rattle.annotations.specs.Refusal.{stop, refusalIn}
+use Rattle.numbers.specs.Refusal.{stop, refusalIn}
 use Rattle.annotations.specs.Annotation.{tripleIn}
 use Rattle.annotations.specs.Step.{annotation, end}
-use Rattle.annotations.specs.Decode.{DecodeStop, noRoom}
-use Rattle.annotations.specs.Promises.{uncompressedIn, stepIn, decodedIn, Uncompressing, Stepping, Decoding}
-use Rattle.annotations.specs.declared.refusal.Refusal.{Refusal}
+use Rattle.decode.specs.Decode.{DecodeStop, noRoom}
+use Rattle.numbers.specs.Promises.{uncompressedIn, Uncompressing}
+use Rattle.annotations.specs.Promises.{stepIn, Stepping}
+use Rattle.decode.specs.Promises.{decodedIn, Decoding}
+use Rattle.numbers.specs.declared.refusal.Refusal.{Refusal}
 use Rattle.annotations.specs.declared.annotation.Triple.{Triple}
-use Rattle.annotations.specs.declared.number.Number.{Number}
-use Rattle.annotations.specs.declared.number.Uncompressed.{Uncompressed}
-use Rattle.annotations.specs.declared.number.Uncompressed.the-variants as uncompressed
+use Rattle.numbers.specs.declared.number.Number.{Number}
+use Rattle.numbers.specs.declared.number.Uncompressed.{Uncompressed}
+use Rattle.numbers.specs.declared.number.Uncompressed.the-variants as uncompressed
 use Rattle.annotations.specs.declared.step.Annotated.{Annotated}
 use Rattle.annotations.specs.declared.step.Step.{Step}
 use Rattle.annotations.specs.declared.step.Step.the-variants as step
-use Rattle.annotations.specs.declared.decode.Decoded.{Decoded}
-use Rattle.annotations.specs.declared.decode.Decoded.the-variants as decoded
+use Rattle.decode.specs.declared.Decoded.{Decoded}
+use Rattle.decode.specs.declared.Decoded.the-variants as decoded
 use Rattle.trovespan.specs.Crossing.{told, opcodeOf, firstOf, secondOf, nextOf, placeOr0}
 use Rattle.trovespan.specs.Promises.{Numbers, Steps, Decodes}
 

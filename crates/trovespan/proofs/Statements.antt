@@ -4,9 +4,9 @@ use native.Mathlib.Omega.{arith}
 use Rattle.paged.specs.Refusal as container
 use Rattle.paged.specs.declared.refusal.Refusal as why-container
 use Rattle.paged.specs.declared.refusal.Refusal.the-variants as container-variants
-use Rattle.annotations.specs.Refusal as annotations
-use Rattle.annotations.specs.declared.refusal.Refusal as why-annotations
-use Rattle.annotations.specs.declared.refusal.Refusal.the-variants as annotations-variants
+use Rattle.numbers.specs.Refusal as annotations
+use Rattle.numbers.specs.declared.refusal.Refusal as why-annotations
+use Rattle.numbers.specs.declared.refusal.Refusal.the-variants as annotations-variants
 use Rattle.annotations.specs.Annotation.{tripleIn}
 use Rattle.annotations.specs.declared.annotation.BinaryAnnotation.{BinaryAnnotation}
 use Rattle.annotations.specs.declared.annotation.BinaryAnnotation.the-variants as annotation

@@ -15,11 +15,11 @@ use Rattle.msf.specs.Msf.{slicesIn, bytesIn, mapping, extraction}
 use Rattle.msf.specs.Promises.{mapped, lengthIn}
 use Rattle.msf.specs.declared.limit.Limit.{Limit}
 use Rattle.msf.specs.declared.to_slices.Mapped.{Mapped}
-use Rattle.annotations.specs.Refusal.{Stop}
-use Rattle.annotations.specs.Number.{numberAt}
+use Rattle.numbers.specs.Refusal.{Stop}
+use Rattle.numbers.specs.Number.{numberAt}
 use Rattle.annotations.specs.Step.{stepAt}
-use Rattle.annotations.specs.Decode.{DecodeStop, entries, decodeAll, decoding}
-use Rattle.annotations.specs.declared.number.Number.{Number}
+use Rattle.decode.specs.Decode.{DecodeStop, entries, decodeAll, decoding}
+use Rattle.numbers.specs.declared.number.Number.{Number}
 use Rattle.trovespan.specs.Crossing.{told, Tells, opcodeOf, firstOf, secondOf, nextOf, placeOr0}
 
 -- ---- the container. A number that a refusal has nothing to tell by is 0

@@ -6,8 +6,8 @@ use Rattle.outcome.specs.Only.{Only}
 use Rattle.parse_buffer.specs.Bytes.{File}
 use Rattle.paged.specs.Refusal as container
 use Rattle.paged.specs.declared.refusal.Refusal as why-container
-use Rattle.annotations.specs.Refusal as annotations
-use Rattle.annotations.specs.declared.refusal.Refusal as why-annotations
+use Rattle.numbers.specs.Refusal as annotations
+use Rattle.numbers.specs.declared.refusal.Refusal as why-annotations
 use Rattle.annotations.specs.Annotation.{tripleIn}
 use Rattle.annotations.specs.declared.annotation.BinaryAnnotation.{BinaryAnnotation}
 use Rattle.msf.specs.declared.limit.Limit.{Limit}

@@ -4,23 +4,24 @@
 // Each returns 0 where the operation accepts, else the refusal's number in document 01's table, and writes what else there
 // is to tell to the numbers that it is lent; where it refuses, `value` is the refusal's value. A number with nothing to
 // tell is 0. Nothing is asked of a caller but that what is lent is there and does not overlap.
-use annotations::Decoded;
 use annotations::Step;
-use annotations::Uncompressed;
-use annotations::decode_all;
 use annotations::step_at;
-use annotations::uncompress_next;
+use decode::Decoded;
+use decode::decode_all;
 use msf::Counted;
 use msf::Extracted;
 use msf::Limit;
 use msf::Mapping;
 use msf::Opened;
 use msf::StreamNumber;
+use numbers::Uncompressed;
+use numbers::uncompress_next;
 ghost use mathlib.Core.Path.{_≡_};
 ghost use lib.ListN.{length};
 ghost use Rattle.parse_buffer.specs.Bytes.{byteAt};
 ghost use Rattle.trovespan.specs.Crossing.{limitOf};
 ghost use Rattle.trovespan.specs.Promises.{Opens, Counts, Maps, Extracts, Numbers, Steps, Decodes};
+ghost use Rattle.trovespan.specs.Statements.{SingleValued, Apart};
 
 // What is returned where nothing is refused; no refusal has this number.
 const ACCEPTED: u32 = 0;
@@ -220,3 +221,9 @@ fn limit_of(limited: bool, limit: usize) -> Limit
     }
     Limit::None
 }
+
+// Each statement of this crate, as a promise that must be proved: none can vanish unnoticed.
+pub fn proved()
+    ensures { λ r. ⌜ SingleValued ⌝ }
+    ensures { λ r. ⌜ Apart ⌝ }
+{}

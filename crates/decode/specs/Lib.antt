@@ -1,0 +1,3 @@
+pub mod Decode
+pub mod Promises
+pub mod Inner

@@ -1,0 +1,118 @@
+"""What the checks of the gate read: the crates' public functions, their must-fail edits, and the tables of docs/PROMISES.md."""
+import re
+from collections import namedtuple
+from pathlib import Path
+
+ROOT = Path(__file__).resolve().parents[2]
+CRATES = ROOT / 'crates'
+
+Function = namedtuple('Function', 'crate name exported requires ensures')
+Row = namedtuple('Row', 'kind names crates promise edits')
+
+
+def read(path):
+    return path.read_text(encoding='utf-8')
+
+
+def crate_names():
+    return sorted(path.name for path in CRATES.iterdir() if path.is_dir())
+
+
+# ---- functions. `rt fmt --check` holds the layout that this leans on: a clause begins a line, and so does the body's brace.
+
+def clauses(head, word):
+    """The texts of the clauses that begin with a word, each with its continuation lines."""
+    found, inside = [], False
+    for line in head:
+        text = line.strip()
+        if re.match(r'(requires|ensures)\b', text):
+            inside = text.startswith(word)
+            if inside:
+                found.append('')
+        if inside:
+            found[-1] += text + ' '
+    return found
+
+
+def head_of(lines, first):
+    """The lines of a function from its name to the brace that opens its body."""
+    head = []
+    for line in lines[first:]:
+        text = line.strip()
+        clause = re.match(r'(requires|ensures)\b', text)
+        if text == '{' or (text.endswith('{') and not clause) or text == '{}':
+            return head + [line]
+        head.append(line)
+    raise SystemExit(f'no body: {lines[first]}')
+
+
+def functions_of(crate):
+    """The public functions of a library; a program has none."""
+    source = CRATES / crate / 'src'
+    if not (source / 'lib.rt').exists():
+        return
+    for path in sorted(source.rglob('*.rt')):
+        lines = [re.sub(r'//.*', '', line) for line in read(path).split('\n')]
+        owner = ''
+        for number, line in enumerate(lines):
+            if block := re.match(r'impl\b.*?(\w+)(?:<[^>]*>)? \{', line):
+                owner = block.group(1) + '::'
+            elif line == '}':
+                owner = ''
+            if found := re.match(r'\s*pub (extern "C" )?fn (\w+)', line):
+                head = head_of(lines, number)
+                yield Function(crate, owner + found.group(2), bool(found.group(1)), clauses(head, 'requires'), clauses(head, 'ensures'))
+
+
+def functions():
+    return [function for crate in crate_names() for function in functions_of(crate)]
+
+
+def statements_of(function):
+    """What a `proved` promises: the name after the last arrow of each clause."""
+    for clause in function.ensures:
+        yield re.search(r'⌜(.*)⌝', clause).group(1).split('→')[-1].split()[0].strip('()')
+
+
+# ---- must-fail edits
+
+def edits():
+    """(crate, name) of each edit, and its file."""
+    return {(path.parts[-3], path.stem): path for path in sorted(CRATES.glob('*/must-fail/*.edit'))}
+
+
+def expected(path):
+    """Where an edit says that it must be refused: a file and a declaration."""
+    found = re.findall(r'^expect: (\S+) (\S+)$', read(path), re.M)
+    return found[0] if len(found) == 1 else None
+
+
+# ---- docs/PROMISES.md. A table is one of these by the first cell of its head.
+
+KINDS = {'Operation': 'operation', 'Statement': 'statement', 'Inner function': 'inner'}
+
+
+def words(cell):
+    """What stands between backticks."""
+    return re.findall(r'`([^`]+)`', cell)
+
+
+def rows():
+    """The rows of the tables of operations, statements and inner functions."""
+    columns = None
+    for line in read(ROOT / 'docs' / 'PROMISES.md').split('\n'):
+        if not line.startswith('|'):
+            columns = None
+            continue
+        cells = [cell.strip() for cell in line.strip().strip('|').split('|')]
+        if columns is None:
+            columns = cells
+        elif columns[0] in KINDS and not re.fullmatch(r'[-:]+', cells[0]):
+            yield row_of(KINDS[columns[0]], dict(zip(columns, cells)), columns[0])
+
+
+def row_of(kind, cells, first):
+    crates = words(cells['Crate'])
+    names = [name.split('(')[0] for name in words(cells[first])]
+    listed = [edit.split('/') if '/' in edit else (crates[0], edit) for edit in words(cells.get('Must-fail edits', ''))]
+    return Row(kind, names, crates, words(cells.get('Promise', '')), [tuple(edit) for edit in listed])
