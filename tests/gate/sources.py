@@ -89,7 +89,7 @@ def expected(path):
 
 # ---- docs/PROMISES.md. A table is one of these by the first cell of its head.
 
-KINDS = {'Operation': 'operation', 'Statement': 'statement', 'Inner function': 'inner'}
+KINDS = {'Operation': 'operation', 'Statement': 'statement', 'Inner function': 'inner', 'Wrong program': 'wrong'}
 
 
 def words(cell):
@@ -98,7 +98,7 @@ def words(cell):
 
 
 def rows():
-    """The rows of the tables of operations, statements and inner functions."""
+    """The rows of the tables of operations, statements, inner functions and wrong programs."""
     columns = None
     for line in read(ROOT / 'docs' / 'PROMISES.md').split('\n'):
         if not line.startswith('|'):
@@ -112,7 +112,10 @@ def rows():
 
 
 def row_of(kind, cells, first):
-    crates = words(cells['Crate'])
+    crates = words(cells.get('Crate', ''))
     names = [name.split('(')[0] for name in words(cells[first])]
-    listed = [edit.split('/') if '/' in edit else (crates[0], edit) for edit in words(cells.get('Must-fail edits', ''))]
-    return Row(kind, names, crates, words(cells.get('Promise', '')), [tuple(edit) for edit in listed])
+    listed = words(cells.get('Must-fail edits', '') + cells.get('Tried as', ''))
+    if kind != 'wrong' and not crates:
+        raise SystemExit(f'docs/PROMISES.md names no crate in the row of {cells[first]}')
+    edits = [tuple(edit.split('/')) if '/' in edit else (crates[0] if crates else '', edit) for edit in listed]
+    return Row(kind, names, crates, words(cells.get('Promise', '')), edits)
