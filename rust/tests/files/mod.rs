@@ -1,4 +1,5 @@
 //! Containers as files.
+#![allow(dead_code)] // Each test takes what it needs.
 
 const MAGIC: &[u8; 32] = b"Microsoft C/C++ MSF 7.00\r\n\x1a\x44\x53\x00\x00\x00";
 pub const SMALL_MAGIC: &[u8; 42] = b"Microsoft C/C++ program database 2.00\r\n\x1a\x4a\x47";
@@ -61,7 +62,8 @@ pub fn stream_2() -> Vec<u8> {
     [&f()[2560..3072], &f()[1280..1368]].concat()
 }
 
-fn put(file: &mut [u8], at: usize, words: &[u32]) {
+/// Puts words at a place.
+pub fn put(file: &mut [u8], at: usize, words: &[u32]) {
     for (place, word) in file[at..].chunks_exact_mut(4).zip(words) {
         place.copy_from_slice(&word.to_le_bytes());
     }

@@ -24,7 +24,7 @@ impl Comparison {
     }
 
     /// Compares both answers to a question of a record. The first difference is printed, with the
-    /// question, and ends the program.
+    /// question, and ends the program. A question that has no answer is not counted.
     pub fn compare<P: Display + PartialEq>(
         &mut self,
         record: usize,
@@ -40,7 +40,9 @@ impl Comparison {
             print!("{}", difference(&ours, &theirs));
             std::process::exit(1);
         }
-        self.questions += 1;
+        if !theirs.is_empty() {
+            self.questions += 1;
+        }
     }
 
     /// Says how many questions were compared.
@@ -62,15 +64,30 @@ fn alter<P>(answer: &mut Answer<P>) {
 /// The first part in which the answers differ, of both, and its first word that differs.
 fn difference<P: Display + PartialEq>(ours: &Answer<P>, theirs: &Answer<P>) -> String {
     let part = same(ours, theirs);
+    let word = match (ours.get(part), theirs.get(part)) {
+        (Some((_, ours)), Some((_, theirs))) => same(ours, theirs),
+        _ => 0,
+    };
     let shown = |answer: &Answer<P>| match answer.get(part) {
-        Some((name, words)) => format!("{}: {}", name, text(words)),
+        Some((name, words)) => format!("{}: {}", name, around(words, word)),
         None => "nothing".to_string(),
     };
-    let mut text = format!("  ours, {}\n  pdb, {}\n", shown(ours), shown(theirs));
-    if let (Some((_, ours)), Some((_, theirs))) = (ours.get(part), theirs.get(part)) {
-        text += &format!("  they part at word {}, from 0\n", same(ours, theirs));
-    }
-    text
+    format!(
+        "  ours, {}\n  pdb, {}\n  they part at word {}, from 0\n",
+        shown(ours),
+        shown(theirs),
+        word
+    )
+}
+
+/// The words of a part around one of them, since there may be very many.
+fn around(words: &[Word], word: usize) -> String {
+    const SHOWN: usize = 1000;
+    let from = word.saturating_sub(SHOWN);
+    let to = words.len().min(word + SHOWN);
+    let dots = |left_out| if left_out { ".." } else { "" };
+    let shown = text(&words[from..to]);
+    format!("{}{}{}", dots(from > 0), shown, dots(to < words.len()))
 }
 
 /// How long two lists are the same.

@@ -19,6 +19,8 @@
 //!     oracle compare SUBJECT SEED COUNT  compares our answers with pdb's to the questions of that live
 //!                                        list. SUBJECT is annotations, msf or isolation
 //!     oracle compare SUBJECT             the same of the fixed list, which isolation has not
+//!     oracle compare SUBJECT large       the same of strings, or files, that no list has room for:
+//!                                        their places, counts and sizes pass 16, 24 and 32 bits
 //!     oracle compare-altered N ..        the same, with our answer to record N made wrong
 //!     oracle bench                       how long both take (`bench/run`)
 
@@ -63,8 +65,8 @@ mod records;
 const USAGE: &str = "usage: oracle record | live SEED COUNT | show N | alter N, \
                      or the same with -msf or -buffer after the first word, \
                      or isolation-msf SEED COUNT | file-msf NAME | listing-msf, \
-                     or with the feature ours compare annotations|msf|isolation [SEED COUNT] \
-                     | compare-altered N annotations|msf|isolation [SEED COUNT] | bench";
+                     or with the feature ours compare annotations|msf|isolation [large | SEED COUNT] \
+                     | compare-altered N annotations|msf|isolation [large | SEED COUNT] | bench";
 
 fn main() {
     let words: Vec<String> = std::env::args().skip(1).collect();
@@ -125,7 +127,9 @@ fn compare(asked: &[&str], altered: Option<usize>, out: &mut impl Write) -> io::
             let questions = annotations::live(number(seed), number(count));
             annotations::compare(questions, &mut comparison)
         }
+        ["annotations", "large"] => annotations::compare(annotations::large(), &mut comparison),
         ["msf"] => container::compare(container::fixed(), &mut comparison),
+        ["msf", "large"] => container::compare(container::large(), &mut comparison),
         ["msf", seed, count] => container::compare(
             container::live(number(seed), number(count)),
             &mut comparison,

@@ -4,6 +4,7 @@
 //! length u16, place u16, lowest room u16, highest room u16, sweep u8, three zeros, lane a u32,
 //! lane b u32.
 
+use std::borrow::Cow;
 use std::io::{self, Write};
 
 use super::answers::{self, Answer, Library};
@@ -33,12 +34,13 @@ pub struct Question {
 
 impl Question {
     /// The strings that the question asks of.
-    pub fn strings(&self) -> Vec<Vec<u8>> {
+    pub fn strings(&self) -> Vec<Cow<'_, [u8]>> {
         if !self.sweep {
-            return vec![self.bytes.clone()];
+            return vec![Cow::Borrowed(&self.bytes)];
         }
         let prefix = &self.bytes[..self.bytes.len() - 1];
-        (0..=255).map(|last| [prefix, &[last]].concat()).collect()
+        let swept = |last| Cow::Owned([prefix, &[last]].concat());
+        (0..=255).map(swept).collect()
     }
 
     /// What a library answers of one of the strings.

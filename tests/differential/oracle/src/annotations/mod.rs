@@ -3,6 +3,8 @@
 mod answers;
 #[cfg(feature = "ours")]
 mod compare;
+#[cfg(feature = "ours")]
+mod large;
 mod list;
 #[cfg(feature = "ours")]
 mod ours;
@@ -14,6 +16,8 @@ mod show;
 
 #[cfg(feature = "ours")]
 pub use compare::compare;
+#[cfg(feature = "ours")]
+pub use large::large;
 pub use list::{write, LAYOUT};
 #[cfg(feature = "ours")]
 pub use pdb::triple;

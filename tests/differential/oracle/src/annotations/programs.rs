@@ -24,6 +24,20 @@ pub fn structured(random: &mut Random, length: usize) -> Vec<u8> {
     program
 }
 
+/// A program of at least `length` bytes: annotations with operands of every form, and no end.
+pub fn sound(random: &mut Random, length: usize) -> Vec<u8> {
+    let mut program = Vec::new();
+    while program.len() < length {
+        let opcode = 1 + random.below(13) as u32;
+        in_a_form(random, opcode, 16, &mut program);
+        for _ in 0..operands(opcode) {
+            let value = operand(random);
+            in_a_form(random, value, 3, &mut program);
+        }
+    }
+    program
+}
+
 /// A damaged copy.
 pub fn mutated(random: &mut Random, program: &[u8]) -> Vec<u8> {
     let mut damaged = program.to_vec();
@@ -46,9 +60,18 @@ fn annotation(random: &mut Random, program: &mut Vec<u8>) {
     };
     // An opcode is a number too, so it has long forms.
     number(random, opcode, 16, program);
-    for _ in 0..if opcode == 12 { 2 } else { 1 } {
+    for _ in 0..operands(opcode) {
         let value = operand(random);
         number(random, value, 3, program);
+    }
+}
+
+/// How many operands an annotation has.
+fn operands(opcode: u32) -> usize {
+    if opcode == 12 {
+        2
+    } else {
+        1
     }
 }
 
@@ -61,13 +84,17 @@ fn operand(random: &mut Random) -> u32 {
     }
 }
 
-/// Writes a number: in its shortest form, or once in `long` times in a longer one. Now and then a
-/// first byte of no form stands in its place.
+/// Writes a number in one of its forms. Now and then a first byte of no form stands in its place.
 fn number(random: &mut Random, value: u32, long: usize, program: &mut Vec<u8>) {
     if random.one_in(200) {
         program.push(0xe0 + random.below(32) as u8);
-        return;
+    } else {
+        in_a_form(random, value, long, program);
     }
+}
+
+/// Writes a number: in its shortest form, or once in `long` times in a longer one.
+fn in_a_form(random: &mut Random, value: u32, long: usize, program: &mut Vec<u8>) {
     let mut forms = FORMS
         .iter()
         .filter(|form| value < form.1)

@@ -2,7 +2,7 @@
 
 use std::fmt::Write;
 
-use super::list::{self, Question};
+use super::list::{self, Question, LONGEST};
 use super::pdb::Pdb;
 use crate::digest::text as words;
 
@@ -33,8 +33,10 @@ pub fn asked(question: &Question) -> String {
     )
 }
 
+/// The bytes, as many as a list's question has.
 pub fn hex(bytes: &[u8]) -> String {
-    let hex: Vec<String> = bytes.iter().map(|b| format!("{:02x}", b)).collect();
+    let shown = bytes.iter().take(LONGEST);
+    let hex: Vec<String> = shown.map(|b| format!("{:02x}", b)).collect();
     format!("bytes {}", hex.join(" "))
 }
 

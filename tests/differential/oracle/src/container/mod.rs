@@ -11,6 +11,8 @@ mod files;
 mod fixed;
 mod hostile;
 mod isolation;
+#[cfg(feature = "ours")]
+mod large;
 mod list;
 mod listed;
 mod listing;
@@ -34,6 +36,8 @@ pub use fixed::fixed;
 #[cfg(feature = "ours")]
 pub use isolation::judged as judged_pairs;
 pub use isolation::write as write_pairs;
+#[cfg(feature = "ours")]
+pub use large::large;
 pub use list::{altered, write};
 pub use listing::whole as listed;
 pub use listings::named;

@@ -66,8 +66,10 @@ impl Question {
 
     /// The files that the question asks of.
     pub fn files(&self, base: &[u8]) -> Vec<Vec<u8>> {
-        let mut file = base.to_vec();
-        file.resize(self.length, 0);
+        // Zeros first: of those that nothing is put into a long file takes no memory.
+        let mut file = vec![0; self.length];
+        let kept = base.len().min(self.length);
+        file[..kept].copy_from_slice(&base[..kept]);
         for edit in &self.edits {
             file[edit.at..edit.at + edit.bytes.len()].copy_from_slice(&edit.bytes);
         }

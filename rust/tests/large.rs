@@ -1,0 +1,145 @@
+//! Lengths, places, limits and counts of more than 16 and of more than 32 bits. What is lent is a little longer than 2^32,
+//! so that a length which is cut to 16 or 32 bits is close to 0.
+
+mod files;
+mod zeros;
+
+use files::*;
+use trovespan::{decode, extract, map, number, open, step, stream_count, DecodeRefusal, Mapped, Opened, Refusal, Step};
+use zeros::zeros;
+
+/// The first numbers that take 17 and 33 bits.
+const BITS_17: usize = 1 << 16;
+const BITS_33: usize = 1 << 32;
+
+const SHORT_DATA: Refusal = Refusal { number: 7, value: 0 };
+
+#[test]
+fn files_over_4_gib() {
+    let file = zeros::<u8>(BITS_33 + 100);
+    file[..6144].copy_from_slice(&f());
+    let (mut offsets, mut sizes, mut out) = ([0; 2], [0; 2], [0; 600]);
+    assert_eq!(open(file), Ok(Opened { page_size: 256, pages_used: 24 }));
+    assert_eq!(stream_count(file), Ok(3));
+    assert_eq!(map(file, 2, None, &mut offsets, &mut sizes), Ok(Mapped { slices: 2, length: 600 }));
+    assert_eq!((offsets, sizes), ([2560, 1280], [512, 88]));
+    assert_eq!(extract(file, 2, None, &mut out), Ok(600));
+    assert_eq!(out[..], stream_2());
+}
+
+/// Two entries are needed, or three. A success writes these alone.
+#[test]
+fn stores_over_2_32_entries() {
+    let mapped = Ok(Mapped { slices: 2, length: 600 });
+    let long = zeros::<u64>(BITS_33 + 1);
+    let mut short = [0; 2];
+    assert_eq!(map(&f(), 2, None, long, &mut short), mapped);
+    assert_eq!((&long[..3], short), (&[2560, 1280, 0][..], [512, 88]));
+    assert_eq!(map(&f(), 2, None, &mut short, long), mapped);
+    assert_eq!((short, &long[..3]), ([2560, 1280], &[512, 88, 0][..]));
+
+    let store = zeros::<i64>(BITS_33 + 1);
+    assert_eq!(decode(&[3, 5], store), Ok(1));
+    assert_eq!(store[..4], [3, 5, 0, 0]);
+}
+
+#[test]
+fn stores_over_4_gib() {
+    let out = zeros::<u8>(BITS_33 + 1);
+    assert_eq!(extract(&f(), 2, None, out), Ok(600));
+    assert_eq!(out[..600], stream_2());
+    assert_eq!(out[600..700], [0; 100]);
+}
+
+#[test]
+fn strings_over_4_gib() {
+    let bytes = zeros::<u8>(BITS_33 + 1);
+    bytes[..2].copy_from_slice(&[3, 5]);
+    bytes[BITS_33 - 2..].copy_from_slice(&[12, 0x7f, 0]);
+    let found = Step::Annotation { opcode: 12, first: 127, second: 0 };
+    assert_eq!(step(bytes, BITS_33 - 2), (found, BITS_33 + 1));
+    assert_eq!(step(bytes, BITS_33 - 1), (Step::Refused(Refusal { number: 9, value: 127 }), BITS_33));
+    assert_eq!(step(bytes, BITS_33), (Step::End, BITS_33 + 1));
+    assert_eq!(number(bytes, BITS_33), (Ok(0), BITS_33 + 1));
+    assert_eq!(number(bytes, BITS_33 + 1), (Err(SHORT_DATA), BITS_33 + 1));
+    let mut store = [0; 3];
+    assert_eq!(decode(bytes, &mut store), Ok(1));
+    assert_eq!(store, [3, 5, 0]);
+}
+
+#[test]
+fn places_far_past_a_string() {
+    for at in [BITS_17, BITS_17 + 1, BITS_33, BITS_33 + 1, BITS_33 * BITS_17, usize::MAX] {
+        assert_eq!(number(&[3, 5], at), (Err(SHORT_DATA), 2));
+        assert_eq!(step(&[3, 5], at), (Step::End, 2));
+    }
+}
+
+#[test]
+fn limits_far_past_a_stream() {
+    for limit in [BITS_17, BITS_17 + 1, BITS_33, BITS_33 + 1, BITS_33 << 8, usize::MAX] {
+        let (mut offsets, mut sizes, mut out) = ([0; 2], [0; 2], [0; 600]);
+        let mapped = map(&f(), 2, Some(limit), &mut offsets, &mut sizes);
+        assert_eq!(mapped, Ok(Mapped { slices: 2, length: 600 }));
+        assert_eq!(extract(&f(), 2, Some(limit), &mut out), Ok(600));
+    }
+}
+
+/// The next place, the count, what is needed, and the place after a refusal.
+#[test]
+fn more_than_65536_annotations() {
+    let count = BITS_17 + 5;
+    let mut bytes = vec![1; 2 * count];
+    let mut store = vec![0; 3 * count];
+    assert_eq!(number(&bytes, 2 * count - 1), (Ok(1), 2 * count));
+    assert_eq!(step(&bytes, 2 * count - 2), (Step::Annotation { opcode: 1, first: 1, second: 0 }, 2 * count));
+    assert_eq!(decode(&bytes, &mut store), Ok(count));
+    assert!(store.chunks(3).all(|annotation| annotation == [1, 1, 0]));
+
+    let no_room = Refusal { number: 10, value: 3 * count as u64 };
+    assert_eq!(decode(&bytes, &mut store[1..]), Err(DecodeRefusal { refusal: no_room, place: None }));
+
+    bytes.extend([0xdf, 0xff, 0xff, 0xff]);
+    let unknown = Refusal { number: 9, value: 536_870_911 };
+    assert_eq!(step(&bytes, 2 * count), (Step::Refused(unknown), 2 * count + 4));
+    assert_eq!(decode(&bytes, &mut store), Err(DecodeRefusal { refusal: unknown, place: Some(2 * count + 4) }));
+}
+
+/// Two pages of 8 MiB. The second is location list and directory, and all that the one stream has: of a stream of the
+/// largest size each page is a slice. The Rust would have to make a vector of that size, so it cannot be asked.
+#[test]
+fn the_largest_stream() {
+    const SIZE: u32 = 0xffff_fffe;
+    let file = paged(SIZE, &[1; 512]);
+    let (mut offsets, mut sizes) = ([0; 512], [0; 512]);
+    let mapped = Mapped { slices: 512, length: SIZE as usize };
+    assert_eq!(map(&file, 0, None, &mut offsets, &mut sizes), Ok(mapped));
+    assert!(offsets.iter().all(|offset| *offset == 1 << 23));
+    assert_eq!(sizes.iter().sum::<u64>(), SIZE.into());
+    for limit in [None, Some(BITS_33), Some(BITS_33 << 8), Some(usize::MAX)] {
+        assert_eq!(extract(&file, 0, limit, &mut []), Err(Refusal { number: 10, value: SIZE.into() }));
+    }
+    assert_eq!(extract(&file, 0, Some(1 << 31), &mut []), Err(Refusal { number: 10, value: 1 << 31 }));
+}
+
+/// A slice begins at its page's number times the page size, wherever that is.
+#[test]
+fn slices_past_4_gib() {
+    let pages = [511, 512, 600, 0x8000_0000, 0xffff_ffff];
+    let file = paged(5 << 23, &pages);
+    let (mut offsets, mut sizes) = ([0; 4], [0; 4]);
+    assert_eq!(map(&file, 0, None, &mut offsets, &mut sizes), Ok(Mapped { slices: 4, length: 5 << 23 }));
+    assert_eq!(offsets, [511 << 23, 600 << 23, 1 << 54, 0xffff_ffff << 23]);
+    assert_eq!(sizes, [2 << 23, 1 << 23, 1 << 23, 1 << 23]);
+}
+
+/// 16 MiB in pages of 8 MiB with one stream. Page 1 begins with the location list, which is page 1, and which is the
+/// directory's count too.
+fn paged(size: u32, pages: &[u32]) -> Vec<u8> {
+    let mut file = vec![0; 2 << 23];
+    file[..4096].copy_from_slice(&f()[..4096]);
+    put(&mut file, PAGE_SIZE, &[1 << 23, 1, 0xffff_ffff, 4 * (2 + pages.len() as u32), 0, 1]);
+    put(&mut file, 1 << 23, &[1, size]);
+    put(&mut file, (1 << 23) + 8, pages);
+    file
+}
