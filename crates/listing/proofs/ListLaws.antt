@@ -11,26 +11,30 @@ use lib.ListN.{length, take, drop, length-append, length-take}
 use lib.Seq.{sets, sets-eq, length-sets, take-at}
 use Rattle.outcome.specs.Outcome.{Outcome, ok, refused, _>>=_, Unchanged}
 use Rattle.outcome.specs.Refusal as paper
-use Rattle.outcome.proofs.OutcomeLaws.{by-test, came-by, ok-is}
+use Rattle.outcome.proofs.OutcomeLaws.{by-test, came-by, ok-is, unchanged, unreached}
 use Rattle.outcome.specs.Store.{written}
 use Rattle.parse_buffer.specs.Bytes.{File}
 use Rattle.io.specs.Counts.{Counts}
-use Rattle.listing.specs.Text.{refusalText}
-use Rattle.listing.specs.Listing.{listable, lineAt, linesFrom, lineOf, placeOf, most}
-use Rattle.listing.specs.Promises.{listRefusalIn, listedIn, linesIn, fitting, textOf, partIn, partOf, Lists, Refuses}
-use Rattle.listing.specs.Inner.{Putting, judgedIn, Judges, Writes}
-use Rattle.listing.proofs.TextLaws.{sets-append}
+use Rattle.listing_text.specs.Text.{refusalText}
+use Rattle.listing_text.specs.Putting.{Putting}
+use Rattle.listing_text.proofs.TextLaws.{sets-append}
+use Rattle.listing_whole.specs.Whole.{listable}
+use Rattle.listing_whole.specs.Promises.{listRefusalIn, judgedIn, Judges}
+use Rattle.listing_whole.proofs.WholeLaws.{whole-is, whole-at, refused-whole}
+use Rattle.listing_whole.specs.declared.refusal.ListRefusal.{ListRefusal}
+use Rattle.listing_whole.specs.declared.Listable.{Listable}
+use Rattle.listing_whole.specs.declared.Judged.{Judged}
+use Rattle.listing_whole.specs.declared.Judged.the-variants as judged
+use Rattle.listing_line.specs.Line.{lineAt}
+use Rattle.listing.specs.Listing.{linesFrom, lineOf, placeOf, most}
+use Rattle.listing.specs.Promises.{listedIn, linesIn, fitting, textOf, partIn, partOf, Lists, Refuses}
+use Rattle.listing.specs.Inner.{Writes}
 use Rattle.listing.proofs.PlaceLaws.{place-end}
-use Rattle.listing.proofs.WholeLaws.{whole-is, whole-at, refused-whole}
 use Rattle.listing.specs.declared.place.Place.{Place}
 use Rattle.listing.specs.declared.place.Place.the-variants.{End}
-use Rattle.listing.specs.declared.refusal.ListRefusal.{ListRefusal}
 use Rattle.listing.specs.declared.Part.{Part}
 use Rattle.listing.specs.declared.Listed.{Listed}
 use Rattle.listing.specs.declared.Listed.the-variants as listed
-use Rattle.listing.specs.declared.whole.Listable.{Listable}
-use Rattle.listing.specs.declared.whole.Judged.{Judged}
-use Rattle.listing.specs.declared.whole.Judged.the-variants as judged
 
 -- ---- the most lines that fit
 module _ (room : ℕ) (line : ℕ → List ℕ) (from : ℕ) where
@@ -151,6 +155,18 @@ module _ (f : File) (len count from : ℕ) {i at : ℕ} {out₀ out : List ℕ} 
   write-ends l m = written-to End (place-end count i l) (ended s count l m)
 
 pub ruleset write-cases = (so-none, so-more, write-stops, write-ends)
+
+-- ---- handing up
+module _ {r : Judged} where
+  pub judged-refused : {why : ListRefusal} → r ≡ judged.Refused why → Unchanged (judgedIn r) (listedIn (listed.Refused why))
+  unfolding judgedIn listedIn
+  judged-refused e = unchanged (ap judgedIn e) refl
+
+  pub judged-listable : {s : Listable} (x : Listed) → r ≡ judged.Listable s → Unchanged (judgedIn r) (listedIn x)
+  unfolding judgedIn
+  judged-listable x e = unreached (ap judgedIn e)
+
+pub ruleset up-cases = (judged-refused, judged-listable)
 
 -- ---- `list`
 module _ {f : File} {len : ℕ} {r : Judged} (p : Judges f len r) where

@@ -1,57 +1,17 @@
 -- Document 01, "Listing": the listing of a file, as its list of bytes.
-use Prim.Native.Nat.{ℕ, zero, suc, _+_, _*_, min}
+use Prim.Native.Nat.{ℕ, zero, suc, _+_, min}
 use mathlib.Core.Bool.{cond}
 use mathlib.Core.List.{List, [], _++_}
-use lib.Dec.{leb, ltb, eqb}
+use lib.Dec.{leb, ltb}
 use lib.ListN.{length}
-use Rattle.outcome.specs.Outcome.{Outcome, ok, refused, _>>=_, _>>_, require}
+use Rattle.outcome.specs.Outcome.{Outcome, ok, refused}
 use Rattle.outcome.specs.Refusal as paper
 use Rattle.parse_buffer.specs.Bytes.{File}
-use Rattle.paged.specs.Refusal.{refusalIn}
-use Rattle.paged.specs.declared.refusal.Refusal.the-variants.{ShortData}
-use Rattle.header.specs.Header.{headerOf}
-use Rattle.directory.specs.Directory.{streamCount}
-use Rattle.msf.specs.Msf.{placed}
-use Rattle.msf.specs.Promises.{mapped}
-use Rattle.msf.specs.declared.limit.Limit.the-variants.{None}
-use Rattle.msf.specs.declared.to_slices.Mapped.{Mapped}
-use Rattle.listing.specs.Text.{Shown, present, absent, mapping-refused, headText, refusalText, lineText}
+use Rattle.listing_text.specs.Text.{refusalText}
+use Rattle.listing_whole.specs.Whole.{listable}
+use Rattle.listing_line.specs.Line.{lineAt}
 use Rattle.listing.specs.declared.place.Place.{Place}
 use Rattle.listing.specs.declared.place.Place.the-variants.{Head, Stream, End}
-
--- refusal 11: "listing input over 65,536 bytes, or over 4,096 streams"
-abbrev pub inputLimit : ℕ
-inputLimit = 65536
-
-abbrev pub streamLimit : ℕ
-streamLimit = 4096
-
-abbrev pub overLimit : ℕ → paper.Refusal
-overLimit limit = record { number = 11; value = limit }
-
--- how many streams are listed, or the whole refusal: "11 for input size first, then the stream count's refusals, then 7 if
--- 4 + 4*count exceeds directory_size, then 11 for streams"
-unfoldable pub listable : File → ℕ → Outcome paper.Refusal ℕ
-listable f len = do
-  require (leb len inputLimit) (overLimit inputLimit)
-  n ← streamCount f len
-  require (leb (4 + 4 * n) (headerOf f .directory)) (refusalIn ShortData)
-  require (leb n streamLimit) (overLimit streamLimit)
-  ok n
-
--- a stream's line is the answer of mapping it, without a limit or a store; of the streams listed only an absent one is
--- refused with 5
-unfoldable pub shownOf : Outcome paper.Refusal Mapped → Shown
-shownOf (ok m) = present (m .length) (m .slices)
-shownOf (refused why) = cond (eqb (why .number) 5) absent (mapping-refused why)
-
-abbrev pub shown : File → ℕ → ℕ → Shown
-shown f len k = shownOf (mapped f (placed f len k None))
-
--- the lines of a file of n streams: line 0 is the head, line 1 + k is stream k's
-unfoldable pub lineAt : File → ℕ → ℕ → ℕ → List ℕ
-lineAt f len n zero = headText n
-lineAt f len n (suc k) = lineText k (shown f len k)
 
 -- m lines from one on, end to end
 unfoldable pub linesFrom : (ℕ → List ℕ) → ℕ → ℕ → List ℕ

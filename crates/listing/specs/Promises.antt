@@ -10,21 +10,17 @@ use Rattle.outcome.specs.Outcome.{Outcome, ok, refused, _>>=_}
 use Rattle.outcome.specs.Refusal as paper
 use Rattle.outcome.specs.Store.{written}
 use Rattle.parse_buffer.specs.Bytes.{File}
-use Rattle.paged.specs.Refusal.{refusalIn}
-use Rattle.listing.specs.Text.{refusalText}
-use Rattle.listing.specs.Listing.{overLimit, listable, lineAt, linesFrom, lineOf, placeOf, most}
+use Rattle.listing_text.specs.Text.{refusalText}
+use Rattle.listing_whole.specs.Whole.{listable}
+use Rattle.listing_whole.specs.Promises.{listRefusalIn}
+use Rattle.listing_line.specs.Line.{lineAt}
+use Rattle.listing.specs.Listing.{linesFrom, lineOf, placeOf, most}
 use Rattle.listing.specs.declared.place.Place.{Place}
-use Rattle.listing.specs.declared.refusal.ListRefusal.{ListRefusal}
-use Rattle.listing.specs.declared.refusal.ListRefusal.the-variants.{Container, OverLimit}
 use Rattle.listing.specs.declared.Part.{Part}
 use Rattle.listing.specs.declared.Listed.{Listed}
 use Rattle.listing.specs.declared.Listed.the-variants as listed
 
--- ---- what each answer of the code says on paper
-abbrev pub listRefusalIn : ListRefusal → paper.Refusal
-listRefusalIn (Container why) = refusalIn why
-listRefusalIn (OverLimit limit) = overLimit limit
-
+-- ---- what the answer of the code says on paper
 unfoldable pub listedIn : Listed → Outcome paper.Refusal Part
 listedIn (listed.Part p) = ok p
 listedIn (listed.Refused why) = refused (listRefusalIn why)

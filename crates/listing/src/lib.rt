@@ -1,35 +1,31 @@
 // The listing of a container: which streams it holds. The head, then a line a stream, as bytes in a lent buffer.
 //
-// refusal.rt: why a file is not listed at all. whole.rt: judging that. place.rt: places in a listing. line.rt: what a
-// stream's line shows. text.rt: the bytes of a line. This file: the two operations.
-mod line;
+// place.rt: places in a listing. This file: the two operations. Below them stand the crates `listing_text`, the bytes of
+// lines; `listing_whole`, whether a file is listed; `listing_line`, what a stream's line shows.
 mod place;
-mod refusal;
-mod text;
-mod whole;
 
-use line::move_past;
-use line::stream_before;
-use line::write_line;
+use listing_line::move_past;
+use listing_line::pages_before_line;
+use listing_line::write_line;
+use listing_text::LONGEST;
+use listing_text::put;
+use listing_text::write_refusal;
+pub use listing_whole::INPUT_LIMIT;
+use listing_whole::Judged;
+pub use listing_whole::ListRefusal;
+use listing_whole::Listable;
+pub use listing_whole::STREAM_LIMIT;
+use listing_whole::judge;
 pub use place::Place;
 use place::line_of;
 use place::place_of;
-pub use refusal::INPUT_LIMIT;
-pub use refusal::ListRefusal;
-pub use refusal::STREAM_LIMIT;
-use stream::pages_before;
-use text::LONGEST;
-use text::put;
-use text::write_refusal;
-use whole::Judged;
-use whole::Listable;
-use whole::judge;
 ghost use Prim.Native.Nat.{_+_, _≤_};
 ghost use lib.ListN.{length};
 ghost use Rattle.outcome.specs.Outcome.{Unchanged};
 ghost use Rattle.parse_buffer.specs.Bytes.{byteAt};
-ghost use Rattle.listing.specs.Promises.{listRefusalIn, listedIn, linesIn, Lists, Refuses};
-ghost use Rattle.listing.specs.Inner.{judgedIn, Whole, Writes};
+ghost use Rattle.listing_whole.specs.Promises.{listRefusalIn, judgedIn, Whole};
+ghost use Rattle.listing.specs.Promises.{listedIn, linesIn, Lists, Refuses};
+ghost use Rattle.listing.specs.Inner.{Writes};
 
 // Whole lines: how many bytes they have, and where the listing goes on.
 pub struct Part {
@@ -83,12 +79,10 @@ fn write_lines(file: &[u8], s: Listable, from: usize, text: &mut [u8], out: &mut
     requires { ⌜ 80 ≤ length (now text) ⌝ }
     ensures { λ r. ⌜ Writes (byteAt (now (file .entry))) (length (now (file .entry))) (linesIn (byteAt (now (file .entry))) (length (now (file .entry))) (s .count) from (length (now (out .entry)))) (now (out .entry)) r (now (out .exit)) ⌝ }
 {
-    let h = s.header;
-    let size = h.size as usize;
     let last = s.count as usize;
     let mut line = from;
     let mut at: usize = 0;
-    let mut before = pages_before(file, size, stream_before(from));
+    let mut before = pages_before_line(file, s, from);
     while line <= last {
         let n = write_line(file, s, line, before, text);
         if out.len() - at < n {
@@ -98,7 +92,7 @@ fn write_lines(file: &[u8], s: Listable, from: usize, text: &mut [u8], out: &mut
             };
         }
         at = put(out, at, &text[..n]);
-        before = move_past(file, size, line, before);
+        before = move_past(file, s, line, before);
         line += 1;
     }
     Part {

@@ -15,8 +15,10 @@ use Rattle.slices.specs.Slices.{lengthen, slicesOf, cut}
 use Rattle.msf.specs.Msf.{placed}
 use Rattle.msf.specs.Promises.{mapped}
 use Rattle.container.specs.FileF.{fileF, F}
-use Rattle.listing.specs.Text.{spelled, shownText}
-use Rattle.listing.specs.Listing.{listable, shownOf, lineAt, linesFrom, listing}
+use Rattle.listing_text.specs.Text.{spelled}
+use Rattle.listing_whole.specs.Whole.{listable}
+use Rattle.listing_line.specs.Line.{shownOf, shownText, lineAt}
+use Rattle.listing.specs.Listing.{linesFrom, listing}
 use Rattle.listing_statements.specs.Cases.{Cases}
 
 pub cases : Cases

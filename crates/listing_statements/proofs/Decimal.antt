@@ -8,7 +8,7 @@ use borrow.Author.Tests.{lt-ltb, le-ltb}
 use lib.ListN.{length, getD, length-append, List·getD-append}
 use lib.Seq.{getD-at}
 use Rattle.outcome.proofs.OutcomeLaws.{below-or}
-use Rattle.listing.specs.Text.{digit, spelled}
+use Rattle.listing_text.specs.Text.{digit, spelled}
 use Rattle.listing_statements.specs.Statements.{valueFrom, Decimal}
 
 value-last : (before : ℕ) (xs : List ℕ) (c : ℕ) → valueFrom before (xs ++ c ∷ []) ≡ valueFrom before xs * 10 + (c - 48)

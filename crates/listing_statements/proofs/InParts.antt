@@ -9,7 +9,8 @@ use lib.Dec.{leb}
 use lib.ListN.{length}
 use Rattle.outcome.proofs.OutcomeLaws.{by-test, below-or}
 use Rattle.parse_buffer.specs.Bytes.{File}
-use Rattle.listing.specs.Listing.{lineAt, linesFrom, listing, lineOf, placeOf, most}
+use Rattle.listing_line.specs.Line.{lineAt}
+use Rattle.listing.specs.Listing.{linesFrom, listing, lineOf, placeOf, most}
 use Rattle.listing.specs.Promises.{linesIn, textOf, partIn}
 use Rattle.listing.proofs.PlaceLaws.{line-most}
 use Rattle.listing_statements.specs.Statements.{restFrom, InParts}

@@ -7,9 +7,12 @@ use Rattle.outcome.specs.Outcome.{ok, refused}
 use Rattle.outcome.specs.Refusal as paper
 use Rattle.outcome.specs.Only.{Only₂, Injective}
 use Rattle.parse_buffer.specs.Bytes.{File}
-use Rattle.listing.specs.Text.{decimal, refusalText}
-use Rattle.listing.specs.Listing.{listable, lineAt, linesFrom, listing, lineOf}
-use Rattle.listing.specs.Promises.{listRefusalIn, listedIn, linesIn, textOf, partIn, Lists, Refuses}
+use Rattle.listing_text.specs.Text.{decimal, refusalText}
+use Rattle.listing_whole.specs.Whole.{listable}
+use Rattle.listing_whole.specs.Promises.{listRefusalIn}
+use Rattle.listing_line.specs.Line.{lineAt}
+use Rattle.listing.specs.Listing.{linesFrom, listing, lineOf}
+use Rattle.listing.specs.Promises.{listedIn, linesIn, textOf, partIn, Lists, Refuses}
 use Rattle.listing.specs.declared.place.Place.{Place}
 use Rattle.listing.specs.declared.place.Place.the-variants.{Head, End}
 

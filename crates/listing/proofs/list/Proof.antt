@@ -1,7 +1,7 @@
 -- A file that is not listed is refused; else the lines are written.
 -- Assumes nothing.
 use borrow.Author.Needs.{needs}
-use Rattle.listing.proofs.WholeLaws.{whole-is}
+use Rattle.listing_whole.proofs.WholeLaws.{whole-is}
 use Rattle.listing.proofs.PlaceLaws.{line-within}
 use Rattle.listing.proofs.ListLaws.{list-cases}
 use Rattle.listing.proofs.list.Statement.{statement}

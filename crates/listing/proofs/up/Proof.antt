@@ -1,7 +1,7 @@
 -- A refusal is passed on; of the other case, which never comes here, nothing is said.
 -- Assumes nothing.
 use borrow.Author.Needs.{needs}
-use Rattle.listing.proofs.WholeLaws.{up-cases}
+use Rattle.listing.proofs.ListLaws.{up-cases}
 use Rattle.listing.proofs.up.Statement.{statement}
 use Rattle.listing.proofs.up.Tie as tie
 

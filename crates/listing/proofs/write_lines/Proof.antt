@@ -6,34 +6,26 @@ use borrow.Author.Needs.{needs}
 use lib.ListN.{length}
 use Rattle.parse_buffer.specs.Bytes.{byteAt}
 use Rattle.stream.specs.Promises.{Before}
-use Rattle.listing.specs.Listing.{lineAt}
-use Rattle.listing.proofs.WholeLaws.{whole-size}
-use Rattle.listing.proofs.LineLaws.{past-none}
+use Rattle.listing_line.specs.Line.{lineAt}
 use Rattle.listing.proofs.ListLaws.{So-far, write-cases, so-more, so-room, so-inside, same-out}
 use Rattle.listing.proofs.write_lines.Statement.{statement}
 use Rattle.listing.proofs.write_lines.Tie as tie
 
 abbrev Inv-loop : tie.InvT-loop
-Inv-loop file s from text₀ out₀ size last line₀ at₀ before₀ text out line at before =
+Inv-loop file s from text₀ out₀ last line₀ at₀ before₀ text out line at before =
     (line ≤ 1 + s .count) × (length text ≡ length text₀) × So-far (lineAt (byteAt file) (length file) (s .count)) from line at out₀ out × Before (byteAt file) (s .header .size) (line - 1) before
 
 abbrev μ-loop : tie.MeasureT-loop
-μ-loop file s from text₀ out₀ size last line₀ at₀ before₀ text out line at before = 1 + s .count - line
-
-cast-size : tie.Need-cast-size Inv-loop μ-loop
-cast-size c = search needs
+μ-loop file s from text₀ out₀ last line₀ at₀ before₀ text out line at before = 1 + s .count - line
 
 cast-last : tie.Need-cast-last Inv-loop μ-loop
 cast-last c = search needs
 
-stream-before-requires : tie.Need-stream-before-requires Inv-loop μ-loop
-stream-before-requires c κs = search needs
-
-pages-before-requires : tie.Need-pages-before-requires Inv-loop μ-loop
-pages-before-requires c κs = (search whole-size, search needs)
+pages-before-line-requires : tie.Need-pages-before-line-requires Inv-loop μ-loop
+pages-before-line-requires c κs = (search needs, search needs)
 
 loop-holds : tie.Need-loop-holds Inv-loop μ-loop
-loop-holds c = (search needs, search needs, search write-cases, search past-none)
+loop-holds c = (search needs, search needs, search write-cases, search needs)
 
 write-line-requires : tie.Need-write-line-requires Inv-loop μ-loop
 write-line-requires c κs = (search needs, (search needs, (search needs, search needs)))
@@ -63,7 +55,7 @@ put-requires : tie.Need-put-requires Inv-loop μ-loop
 put-requires c κs = search (so-room, needs)
 
 move-past-requires : tie.Need-move-past-requires Inv-loop μ-loop
-move-past-requires c κs = (search whole-size, (search needs, search needs))
+move-past-requires c κs = (search needs, (search needs, search needs))
 
 add-line : tie.Need-add-line Inv-loop μ-loop
 add-line c = search needs
@@ -89,10 +81,8 @@ write-lines-spec =
     (tie.spec
     Inv-loop
     μ-loop
-    cast-size
     cast-last
-    stream-before-requires
-    pages-before-requires
+    pages-before-line-requires
     loop-holds
     write-line-requires
     sub-if1

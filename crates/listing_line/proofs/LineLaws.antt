@@ -1,0 +1,163 @@
+-- What a line shows is the answer of mapping its stream afresh; the carried count is that of the streams before it.
+use mathlib.Core.Path.{_≡_, refl, sym, _∙_, ap}
+use mathlib.Core.List.{List, _++_}
+use Prim.Native.Nat.{ℕ, zero, suc, _+_, _-_, _*_, _/_, _^_, _≤_, _<_}
+use native.Mathlib.Omega.{arith}
+use native.Mathlib.Nat.{mul-le-mul-left}
+use borrow.Author.Tests.{le-leb, lt-ltb, eq-eqb, ne-eqb}
+use lib.Dec.{eqb}
+use lib.ListN.{length}
+use mir.Syntax.{w64}
+use mir.Val.{Fits}
+use Rattle.outcome.specs.Outcome.{ok, refused, _>>=_, _>>_, require}
+use Rattle.outcome.proofs.OutcomeLaws.{by-test}
+use Rattle.parse_buffer.specs.Bytes.{File}
+use Rattle.paged.specs.Refusal.{refusalIn}
+use Rattle.paged.specs.PageSize.{PageSize, need}
+use Rattle.paged.specs.Pages.{directoryWord}
+use Rattle.paged.proofs.SizeLaws.{need-least}
+use Rattle.paged.specs.declared.refusal.Refusal.{Refusal}
+use Rattle.directory.proofs.DirectoryLaws.{reached-size}
+use Rattle.slices.specs.Slices.{slicesOf, cut}
+use Rattle.slices.specs.Inner.{streamPage}
+use Rattle.stream.specs.Stream.{absent, sized, pagesOf, listed, found}
+use Rattle.stream.specs.Promises.{soughtIn, Before, Skipped, Finding}
+use Rattle.stream.proofs.StreamLaws.{before-none, before-more}
+use Rattle.stream.proofs.FindLaws.{found-at, found-not-5}
+use Rattle.stream.specs.declared.Found.{Found}
+use Rattle.stream.specs.declared.Sought.{Sought}
+use Rattle.stream.specs.declared.Sought.the-variants as sought
+use Rattle.msf.specs.Msf.{placed}
+use Rattle.msf.specs.Promises.{mapped}
+use Rattle.listing_text.specs.Text.{headText, sizeText, refusalText}
+use Rattle.listing_text.specs.Putting.{Putting}
+use Rattle.listing_text.proofs.TextLaws.{puts-more}
+use Rattle.listing_whole.specs.Promises.{Whole}
+use Rattle.listing_whole.proofs.WholeLaws.{whole-at, whole-size}
+use Rattle.listing_whole.specs.declared.Listable.{Listable}
+use Rattle.listing_line.specs.Line.{Shown, mapping-refused, shownOf, shown, shownText, lineText, lineAt}
+use Rattle.listing_line.specs.Promises.{shownIn, Up}
+use Rattle.listing_line.specs.declared.Shown as code
+use Rattle.listing_line.specs.declared.Line.{Line}
+use Rattle.listing_line.specs.declared.Line.the-variants as line
+
+-- ---- a refusal handed up
+module _ {r : Sought} where
+  pub up-refused : {why : Refusal} → r ≡ sought.Refused why → Up r (line.Refused why)
+  unfolding soughtIn shownIn
+  up-refused {why} e =
+      record { is = λ w g. let same : refusalIn why ≡ w = cc in ap mapping-refused same }
+
+  pub up-found : {x : Found} (l : Line) → r ≡ sought.Found x → Up r l
+  unfolding soughtIn
+  up-found l e = record { is = λ w g. absurd (let z : _≡_ {A = ℕ} 0 1 = cc in omega arith) }
+
+pub ruleset up-cases = (up-refused, up-found)
+
+-- ---- `show`
+module _ {f : File} {len k : ℕ} {s : Listable} (w : Whole f len s) (l : k < s .count) where
+  pub own-size : 1 + k < 2 ^ 32
+  own-size = let few = whole-at f len w .few in omega arith
+
+  module _ {bytes : ℕ} (b : bytes ≡ directoryWord f (s .header .size) (1 + k)) where
+    pub show-absent : bytes ≡ absent → shownIn line.Absent ≡ shown f len k
+    unfolding shownIn shownOf mapped placed found listed sized require _>>=_ _>>_
+    show-absent a =
+        let at = whole-at f len w in
+        let m = at .sizes in
+        rw (at .reached, le-leb 1 (s .header .directory / 4) (omega arith), ← at .count, lt-ltb k (s .count) l, le-leb (2 + k) (s .header .directory / 4) (omega arith), ← b, eq-eqb bytes absent a)
+
+    pub show-skipped : {before : ℕ} → (bytes ≡ absent → ⊥) → Before f (s .header .size) k before → Skipped f len k (record { header = s .header; count = s .count; size = bytes }) before
+    unfolding sized require _>>=_ _>>_
+    show-skipped a before =
+        let at = whole-at f len w in
+        let m = at .sizes in
+        record {
+          is = rw (at .reached, le-leb 1 (s .header .directory / 4) (omega arith), ← at .count, lt-ltb k (s .count) l, le-leb (2 + k) (s .header .directory / 4) (omega arith), ← b, ne-eqb bytes absent a);
+          sizes = omega arith;
+          pages = before;
+        }
+
+    pub show-refused : {before : ℕ} {r : Sought} {why : Refusal} (y : Line) → (bytes ≡ absent → ⊥) → Before f (s .header .size) k before → Finding f len k r → r ≡ sought.Refused why → Up r y → shownIn y ≡ shown f len k
+    unfolding shownOf mapped placed soughtIn _>>=_
+    show-refused {why = why} y a before p e u =
+        let g : found f len k ≡ refused (refusalIn why) = sym (p .answer) ∙ ap soughtIn e in
+        u .is (refusalIn why) (ap soughtIn e) ∙ rw (g, found-not-5 (show-skipped a before) (refusalIn why) g)
+
+module _ {f : File} {len k : ℕ} {r : Sought} (p : Finding f len k r) where
+  module _ {x : Found} (e : r ≡ sought.Found x) where
+    found-is : found f len k ≡ ok x
+    unfolding soughtIn
+    found-is = sym (p .answer) ∙ ap soughtIn e
+
+    pub show-size : PageSize (x .header .size)
+    show-size = reached-size f len (found-at f len k found-is .reached)
+
+    module _ {n : ℕ} (pages : n ≡ need (x .header .size) (x .size)) where
+      pub show-entries : x .header .directory < 2 ^ 32 → x .first + n ≤ 2 ^ 32
+      show-entries h = let i = found-at f len k found-is .inside in rw pages (omega arith)
+
+      pub show-stream : {c : ℕ} → c ≡ length (cut (x .size) (slicesOf (x .header .size) (streamPage f (x .header .size) (x .first)) n)) → shownIn (line.Stream (record { size = x .size; slices = c })) ≡ shown f len k
+      unfolding shownIn shownOf mapped placed _>>=_
+      show-stream c = rw (found-is, c, pages)
+
+pub ruleset show-cases = (show-absent, show-refused, show-stream)
+
+-- ---- its text
+module _ {xs t t₁ t₂ : List ℕ} {r₁ r₂ : ℕ} {l : Line} (p : Putting xs t 0 t₁ r₁) where
+  pub text-stream : {s : code.Shown} → l ≡ line.Stream s → Putting (sizeText (s .size) (s .slices)) t₁ r₁ t₂ r₂ → Putting (xs ++ shownText (shownIn l)) t 0 t₂ r₂
+  unfolding shownIn shownText
+  text-stream e q = rw e (puts-more p q)
+
+  pub text-absent : l ≡ line.Absent → Putting (sizeText 0 0) t₁ r₁ t₂ r₂ → Putting (xs ++ shownText (shownIn l)) t 0 t₂ r₂
+  unfolding shownIn shownText
+  text-absent e q = rw e (puts-more p q)
+
+  pub text-refused : {why : Refusal} {number value : ℕ} → l ≡ line.Refused why → number ≡ refusalIn why .number → value ≡ refusalIn why .value → Putting (refusalText (record { number = number; value = value })) t₁ r₁ t₂ r₂ → Putting (xs ++ shownText (shownIn l)) t 0 t₂ r₂
+  unfolding shownIn shownText
+  text-refused e n v q = rw e (puts-more p (rw (n, v) at q))
+
+pub ruleset text-cases = (text-stream, text-absent, text-refused)
+
+-- ---- `write_line`
+module _ (f : File) (len n : ℕ) {t t′ : List ℕ} {r : ℕ} where
+  pub line-head : (i : ℕ) → i ≡ 0 → Putting (headText n) t 0 t′ r → Putting (lineAt f len n i) t 0 t′ r
+  unfolding lineAt
+  line-head i e p = rw e p
+
+  pub line-shown : (i : ℕ) {y : Shown} → (i ≡ 0 → ⊥) → y ≡ shown f len (i - 1) → Putting (lineText (i - 1) y) t 0 t′ r → Putting (lineAt f len n i) t 0 t′ r
+  unfolding lineAt
+  line-shown zero z e p = absurd (z refl)
+  line-shown (suc k) z e p =
+      let m : suc k - 1 ≡ k = omega arith in
+      rw (e, m) at p
+
+pub ruleset line-cases = (line-head, line-shown)
+
+-- ---- the carried count: at the head, past it, and past a stream
+pub past-none : {f : File} {p : ℕ} (i : ℕ) → i ≡ 0 → Before f p (i - 1) 0
+past-none {f} {p} i e = rw e (before-none f p)
+
+pub past-head : {f : File} {p b : ℕ} (i : ℕ) → i ≡ 0 → Before f p (i - 1) b → Before f p (i + 1 - 1) b
+past-head i e before = rw e (rw e at before)
+
+module _ {f : File} {len : ℕ} {s : Listable} (w : Whole f len s) (i : ℕ) (has : i ≤ s .count) {b n : ℕ} (before : Before f (s .header .size) (i - 1) b) (size : ℕ) (pages : n ≡ pagesOf (s .header .size) size) (fits : size < 2 ^ 32) where
+  -- as few as bytes at the most
+  few : pagesOf (s .header .size) size ≤ 2 ^ 32
+  unfolding pagesOf
+  few =
+      let p = whole-size w .least in
+      let all : size ≤ size * s .header .size = omega (arith, mul-le-mul-left size p) in
+      let least : need (s .header .size) size ≤ size = need-least (s .header .size) size (omega arith) size all in
+      by-test (λ (n : ℕ). n ≤ 2 ^ 32) (eqb size absent) (λ _. omega arith) (λ _. omega arith)
+
+  pub past-fits : Fits w64 (b + n)
+  past-fits = let streams = whole-at f len w .few in record { fits = omega (arith, few, before .small) }
+
+  pub past-stream : (i ≡ 0 → ⊥) → size ≡ directoryWord f (s .header .size) i → Before f (s .header .size) (i + 1 - 1) (b + n)
+  past-stream z is =
+      let same : 1 + (i - 1) ≡ i = omega (arith, z) in
+      let next : i - 1 + 1 ≡ i + 1 - 1 = omega (arith, z) in
+      rw (← next) (before-more f (s .header .size) before (is ∙ rw same) pages (whole-size w) fits)
+
+pub ruleset past-cases = (past-none, past-head, past-stream)

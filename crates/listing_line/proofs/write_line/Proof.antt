@@ -1,0 +1,47 @@
+-- The head is line 0, and line 1 + k is stream k's.
+-- Assumes a file that is listed, a line that it has, the count of pages before it, and room for the longest.
+use borrow.Author.Needs.{needs}
+use Rattle.listing_line.proofs.LineLaws.{line-cases}
+use Rattle.listing_line.proofs.write_line.Statement.{statement}
+use Rattle.listing_line.proofs.write_line.Tie as tie
+
+write-head-requires : tie.Need-write-head-requires
+write-head-requires c κs = search needs
+
+same-length : tie.Need-same-length
+same-length c = search needs
+
+returns : tie.Need-returns
+returns c = (search line-cases, search needs)
+
+sub-k : tie.Need-sub-k
+sub-k c = search needs
+
+cast-k : tie.Need-cast-k
+cast-k c = search needs
+
+show-requires : tie.Need-show-requires
+show-requires c κs = search needs
+
+write-shown-requires : tie.Need-write-shown-requires
+write-shown-requires c κs = search needs
+
+same-length-2 : tie.Need-same-length-2
+same-length-2 c = search needs
+
+returns-2 : tie.Need-returns-2
+returns-2 c = (search line-cases, search needs)
+
+pub write-line-spec : {M : Type 1} → statement M
+write-line-spec =
+    tie.close
+    (tie.spec
+    write-head-requires
+    same-length
+    returns
+    sub-k
+    cast-k
+    show-requires
+    write-shown-requires
+    same-length-2
+    returns-2)

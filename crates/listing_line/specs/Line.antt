@@ -1,0 +1,43 @@
+-- Document 01, "Listing": a line of the listing, and what a stream's line shows.
+use Prim.Native.Nat.{ℕ, zero, suc}
+use mathlib.Core.Bool.{cond}
+use mathlib.Core.List.{List, _++_}
+use lib.Dec.{eqb}
+use Rattle.outcome.specs.Outcome.{Outcome, ok, refused}
+use Rattle.outcome.specs.Refusal as paper
+use Rattle.parse_buffer.specs.Bytes.{File}
+use Rattle.msf.specs.Msf.{placed}
+use Rattle.msf.specs.Promises.{mapped}
+use Rattle.msf.specs.declared.limit.Limit.the-variants.{None}
+use Rattle.msf.specs.declared.to_slices.Mapped.{Mapped}
+use Rattle.listing_text.specs.Text.{headText, streamText, sizeText, refusalText}
+
+-- what a stream's line shows
+pub data Shown : Type 0 where
+  present : ℕ → ℕ → Shown
+  absent : Shown
+  mapping-refused : paper.Refusal → Shown
+
+-- it is the answer of mapping the stream, without a limit or a store; of the streams listed only an absent one is refused
+-- with 5
+unfoldable pub shownOf : Outcome paper.Refusal Mapped → Shown
+shownOf (ok m) = present (m .length) (m .slices)
+shownOf (refused why) = cond (eqb (why .number) 5) absent (mapping-refused why)
+
+abbrev pub shown : File → ℕ → ℕ → Shown
+shown f len k = shownOf (mapped f (placed f len k None))
+
+-- "an absent stream shows as size 0 with 0 slices; another refusal of that mapping shows as `K refused C V`"
+unfoldable pub shownText : Shown → List ℕ
+shownText (present size slices) = sizeText size slices
+shownText absent = sizeText 0 0
+shownText (mapping-refused why) = refusalText why
+
+-- "A line is number, size, slices"
+abbrev pub lineText : ℕ → Shown → List ℕ
+lineText k shown = streamText k ++ shownText shown
+
+-- the lines of a file of n streams: line 0 is the head, line 1 + k is stream k's
+unfoldable pub lineAt : File → ℕ → ℕ → ℕ → List ℕ
+lineAt f len n zero = headText n
+lineAt f len n (suc k) = lineText k (shown f len k)

@@ -1,0 +1,142 @@
+// A line of the listing, for crate `listing`. A stream's line shows the answer of mapping it whole, without a store. The
+// pages before it come from the line before, so that all lines together walk each size once.
+use listing_text::write_absent;
+use listing_text::write_head;
+use listing_text::write_refusal;
+use listing_text::write_size;
+use listing_text::write_stream;
+use listing_whole::Listable;
+use paged::Refusal;
+use paged::StreamNumber;
+use paged::directory_word;
+use paged::pages_needed_to_store;
+use slices::count_slices;
+use stream::ABSENT;
+use stream::Sized;
+use stream::Sought;
+use stream::find_after;
+use stream::pages_before;
+use stream::pages_of;
+ghost use mathlib.Core.Path.{_≡_};
+ghost use Prim.Native.Nat.{_+_, _-_, _≤_, _<_};
+ghost use lib.ListN.{length};
+ghost use Rattle.parse_buffer.specs.Bytes.{byteAt};
+ghost use Rattle.stream.specs.Promises.{Before};
+ghost use Rattle.io.specs.Counts.{Counts};
+ghost use Rattle.listing_text.specs.Putting.{Putting};
+ghost use Rattle.listing_whole.specs.Promises.{Whole};
+ghost use Rattle.listing_line.specs.Line.{lineText, lineAt, shown};
+ghost use Rattle.listing_line.specs.Promises.{shownIn, Up};
+
+// A stream's size, and how many slices it has.
+struct Shown {
+    pub size: u32,
+    pub slices: usize,
+}
+
+enum Line {
+    Stream(Shown),
+    Absent,
+    Refused(Refusal),
+}
+
+// The text of a line of the listing, at the front of `text`: how many bytes.
+pub fn write_line(file: &[u8], s: Listable, line: usize, before: usize, text: &mut [u8]) -> usize
+    requires { ⌜ Whole (byteAt (now file)) (length (now file)) s ⌝ }
+    requires { ⌜ line ≤ s .count ⌝ }
+    requires { ⌜ Before (byteAt (now file)) (s .header .size) (line - 1) before ⌝ }
+    requires { ⌜ 80 ≤ length (now text) ⌝ }
+    ensures { λ r. ⌜ Putting (lineAt (byteAt (now (file .entry))) (length (now (file .entry))) (s .count) line) (now (text .entry)) 0 (now (text .exit)) r ⌝ }
+    ensures { λ r. ⌜ Counts r (now (text .exit)) ⌝ }
+{
+    if line == 0 {
+        return write_head(text, s.count);
+    }
+    let k = (line - 1) as u32;
+    let shown = show(file, s, StreamNumber(k), before);
+    write_shown(text, k, shown)
+}
+
+fn write_shown(text: &mut [u8], k: u32, line: Line) -> usize
+    requires { ⌜ 80 ≤ length (now text) ⌝ }
+    ensures { λ r. ⌜ Putting (lineText k (shownIn line)) (now (text .entry)) 0 (now (text .exit)) r ⌝ }
+    ensures { λ r. ⌜ Counts r (now (text .exit)) ⌝ }
+{
+    let at = write_stream(text, k);
+    match line {
+        Line::Stream(shown) => write_size(text, at, shown.size, shown.slices),
+        Line::Absent => write_absent(text, at),
+        Line::Refused(why) => write_refusal(text, at, why.number(), why.value()),
+    }
+}
+
+// The line of a stream, given how many page numbers the streams before it have.
+fn show(file: &[u8], s: Listable, stream: StreamNumber, before: usize) -> Line
+    requires { ⌜ Whole (byteAt (now file)) (length (now file)) s ⌝ }
+    requires { ⌜ stream .0 < s .count ⌝ }
+    requires { ⌜ Before (byteAt (now file)) (s .header .size) (stream .0) before ⌝ }
+    ensures { λ r. ⌜ shownIn r ≡ shown (byteAt (now (file .entry))) (length (now (file .entry))) (stream .0) ⌝ }
+{
+    let h = s.header;
+    let size = h.size as usize;
+    let bytes = directory_word(file, size, 1 + stream.0 as usize);
+    if bytes == ABSENT {
+        return Line::Absent;
+    }
+    let sized = Sized {
+        header: h,
+        count: s.count,
+        size: bytes,
+    };
+    let found = find_after(file, stream, sized, before);
+    let Sought::Found(x) = found else {
+        return up(found);
+    };
+    let own = x.header;
+    let page = own.size as usize;
+    let length = x.size as usize;
+    let n = pages_needed_to_store(page, length);
+    let slices = count_slices(file, page, x.first, length, n);
+    Line::Stream(Shown {
+        size: x.size,
+        slices,
+    })
+}
+
+fn up(found: Sought) -> Line
+    ensures { λ r. ⌜ Up found r ⌝ }
+{
+    match found {
+        Sought::Refused(why) => Line::Refused(why),
+        Sought::Found(_) => Line::Absent,
+    }
+}
+
+// The page numbers before the stream of a line, or before the first stream's.
+pub fn pages_before_line(file: &[u8], s: Listable, line: usize) -> usize
+    requires { ⌜ Whole (byteAt (now file)) (length (now file)) s ⌝ }
+    requires { ⌜ line ≤ 1 + s .count ⌝ }
+    ensures { λ r. ⌜ Before (byteAt (now (file .entry))) (s .header .size) (line - 1) r ⌝ }
+{
+    let h = s.header;
+    if line == 0 {
+        return 0;
+    }
+    pages_before(file, h.size as usize, line - 1)
+}
+
+// And those before the stream of the next line, given those before this one's.
+pub fn move_past(file: &[u8], s: Listable, line: usize, before: usize) -> usize
+    requires { ⌜ Whole (byteAt (now file)) (length (now file)) s ⌝ }
+    requires { ⌜ line ≤ s .count ⌝ }
+    requires { ⌜ Before (byteAt (now file)) (s .header .size) (line - 1) before ⌝ }
+    ensures { λ r. ⌜ Before (byteAt (now (file .entry))) (s .header .size) (line + 1 - 1) r ⌝ }
+{
+    let h = s.header;
+    let size = h.size as usize;
+    if line == 0 {
+        return before;
+    }
+    let bytes = directory_word(file, size, line);
+    before + pages_of(size, bytes)
+}

@@ -1,0 +1,59 @@
+// Whether a file is listed, in document 01's order: 11 for its length, what the stream count refuses, 7 where the
+// directory does not hold all sizes, 11 for streams.
+//
+// refusal.rt: why a file is not listed at all. This file: judging that, for the crates of the listing.
+mod refusal;
+
+use directory::reach;
+use header::Headed;
+use header::Header;
+use paged::Refusal;
+use paged::directory_word;
+pub use refusal::INPUT_LIMIT;
+pub use refusal::ListRefusal;
+pub use refusal::STREAM_LIMIT;
+ghost use lib.ListN.{length};
+ghost use Rattle.outcome.specs.Outcome.{Unchanged};
+ghost use Rattle.parse_buffer.specs.Bytes.{byteAt};
+ghost use Rattle.header.specs.Promises.{headedIn};
+ghost use Rattle.listing_whole.specs.Promises.{judgedIn, Judges};
+
+// A directory that holds its count and all sizes.
+pub struct Listable {
+    pub header: Header,
+    pub count: u32,
+}
+
+pub enum Judged {
+    Listable(Listable),
+    Refused(ListRefusal),
+}
+
+pub fn judge(file: &[u8]) -> Judged
+    ensures { λ r. ⌜ Judges (byteAt (now (file .entry))) (length (now (file .entry))) r ⌝ }
+{
+    if INPUT_LIMIT < file.len() {
+        return Judged::Refused(ListRefusal::OverLimit(INPUT_LIMIT as u32));
+    }
+    let reached = reach(file);
+    let Headed::Container(h) = reached else {
+        return up(reached);
+    };
+    let count = directory_word(file, h.size as usize, 0);
+    if (h.directory as u64) < 4 + 4 * count as u64 {
+        return Judged::Refused(ListRefusal::Container(Refusal::ShortData));
+    }
+    if STREAM_LIMIT < count {
+        return Judged::Refused(ListRefusal::OverLimit(STREAM_LIMIT));
+    }
+    Judged::Listable(Listable { header: h, count })
+}
+
+fn up(r: Headed) -> Judged
+    ensures { λ x. ⌜ Unchanged (headedIn r) (judgedIn x) ⌝ }
+{
+    match r {
+        Headed::Refused(why) => Judged::Refused(ListRefusal::Container(why)),
+        Headed::Container(_) => Judged::Refused(ListRefusal::Container(Refusal::ShortData)),
+    }
+}
