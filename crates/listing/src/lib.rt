@@ -1,7 +1,7 @@
 // The listing of a container: which streams it holds. The head, then a line a stream, as bytes in a lent buffer.
 //
-// place.rt: places in a listing. This file: the two operations. Below them stand the crates `listing_text`, the bytes of
-// lines; `listing_whole`, whether a file is listed; `listing_line`, what a stream's line shows.
+// place.rt: places in a listing. This file: the two operations. Below them stand the crates `listing_text`, the bytes
+// of lines; `listing_whole`, whether a file is listed; `listing_line`, what a stream's line shows.
 mod place;
 
 use listing_line::move_past;

@@ -18,8 +18,8 @@ pub data Shown : Type 0 where
   absent : Shown
   mapping-refused : paper.Refusal → Shown
 
--- it is the answer of mapping the stream, without a limit or a store; of the streams listed only an absent one is refused
--- with 5
+-- it is the answer of mapping the stream, without a limit or a store; of the streams listed only an absent one is
+-- refused with 5
 unfoldable pub shownOf : Outcome paper.Refusal Mapped → Shown
 shownOf (ok m) = present (m .length) (m .slices)
 shownOf (refused why) = cond (eqb (why .number) 5) absent (mapping-refused why)

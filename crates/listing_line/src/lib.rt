@@ -1,5 +1,5 @@
-// A line of the listing, for crate `listing`. A stream's line shows the answer of mapping it whole, without a store. The
-// pages before it come from the line before, so that all lines together walk each size once.
+// A line of the listing, for crate `listing`. A stream's line shows the answer of mapping it whole, without a store.
+// The pages before it come from the line before, so that all lines together walk each size once.
 use listing_text::write_absent;
 use listing_text::write_head;
 use listing_text::write_refusal;

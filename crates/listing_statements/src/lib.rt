@@ -1,4 +1,17 @@
-// What holds of the listing beyond its promises, as statements with their proofs: there is no code here.
+// What holds of the listing beyond its promises, as statements with their proofs.
 //
 // specs/Statements.antt: no second answer, numbers in decimal, the parts that make the whole. specs/Cases.antt: document
-// 01's listing of file F.
+// 01's listing of file F. The one function does nothing: it is there so that the check fails if a proof goes missing.
+ghost use Prim.Native.Nat.{ℕ};
+ghost use Rattle.parse_buffer.specs.Bytes.{File};
+ghost use Rattle.listing_statements.specs.Statements.{Told, SingleValued, Decimal, InParts};
+ghost use Rattle.listing_statements.specs.Cases.{Cases};
+
+// Each statement of this crate, as a promise that must be proved: none can vanish unnoticed.
+pub fn proved()
+    ensures { λ r. ⌜ Told ⌝ }
+    ensures { λ r. ⌜ SingleValued ⌝ }
+    ensures { λ r. ⌜ Decimal ⌝ }
+    ensures { λ r. ⌜ ((f : File) (len : ℕ) → InParts f len) ⌝ }
+    ensures { λ r. ⌜ Cases ⌝ }
+{}

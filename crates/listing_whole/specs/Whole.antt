@@ -19,8 +19,8 @@ streamLimit = 4096
 abbrev pub overLimit : ℕ → paper.Refusal
 overLimit limit = record { number = 11; value = limit }
 
--- how many streams are listed, or the whole refusal: "11 for input size first, then the stream count's refusals, then 7 if
--- 4 + 4*count exceeds directory_size, then 11 for streams"
+-- how many streams are listed, or the whole refusal: "11 for input size first, then the stream count's refusals, then
+-- 7 if 4 + 4*count exceeds directory_size, then 11 for streams"
 unfoldable pub listable : File → ℕ → Outcome paper.Refusal ℕ
 listable f len = do
   require (leb len inputLimit) (overLimit inputLimit)
