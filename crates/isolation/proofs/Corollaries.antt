@@ -6,13 +6,12 @@ use native.Mathlib.Omega.{arith}
 use borrow.Author.Tests.{leb-true}
 use Rattle.parse_buffer.specs.Bytes.{File}
 use Rattle.header.specs.Header.{bigMagic, standsAt}
-use Rattle.directory.specs.Directory.{words}
 use Rattle.stream.proofs.FindLaws.{listed-at}
 use Rattle.msf.specs.declared.limit.Limit.{Limit}
 use Rattle.isolation.specs.Listed.{ListedOpen, ListedCount, Listed, ListedBytes, Agree}
 use Rattle.isolation.specs.Corollaries.{Alike, DifferOnlyAt, Corollaries}
 use Rattle.isolation.proofs.PageZero.{entry-past, word-past, slices-past}
-use Rattle.isolation.proofs.StreamSame.{readable-found}
+use Rattle.isolation.proofs.StreamSame.{readable-placed}
 use Rattle.isolation.proofs.Isolation.{isolation}
 
 pub alike : (f g : File) (len k : ℕ) (limit : Limit) → Agree (ListedBytes f len k limit) f g → Alike f g len k limit
@@ -36,18 +35,16 @@ unlisted f g len k limit at n =
 
 pub page-zero : (f : File) (len k : ℕ) (limit : Limit) (i : ℕ) → i < 256 → ListedBytes f len k limit i → ListedOpen f len i
 page-zero f len k limit i m (ListedBytes.mapping (Listed.counting (ListedCount.opening l))) = l
-page-zero f len k limit i m (ListedBytes.mapping (Listed.counting (ListedCount.list {j} o inside l w))) =
-    let past = entry-past f len o j l in absurd (omega (arith, w .0))
+page-zero f len k limit i m (ListedBytes.mapping (Listed.counting (ListedCount.list {j} {h} o inside l w))) =
+    let past = entry-past f len {h = h} (cc) j (omega arith) in absurd (omega (arith, w .0))
 page-zero f len k limit i m (ListedBytes.mapping (Listed.counting (ListedCount.count d t w))) =
-    let past = word-past f len d 0 (leb-true _ _ t) in absurd (omega (arith, w .0))
-page-zero f len k limit i m (ListedBytes.mapping (Listed.sizes {j} {h} d _ _ t w)) =
-    let held : 2 + j ≤ words h = leb-true _ _ t in
-    let past = word-past f len d (1 + j) (omega arith) in absurd (omega (arith, w .0))
+    let past = word-past f len d 0 (omega (arith, leb-true)) in absurd (omega (arith, w .0))
+page-zero f len k limit i m (ListedBytes.mapping (Listed.sizes {j} d _ _ t w)) =
+    let past = word-past f len d (1 + j) (omega (arith, leb-true)) in absurd (omega (arith, w .0))
 page-zero f len k limit i m (ListedBytes.mapping (Listed.pages {j} {x} s l t w)) =
-    let held : x .first + j + 1 ≤ words (x .header) = leb-true _ _ t in
-    let past = word-past f len (listed-at f len k s .reached) (x .first + j) (omega arith) in absurd (omega (arith, w .0))
+    let past = word-past f len (listed-at f len k s .reached) (x .first + j) (omega (arith, leb-true)) in absurd (omega (arith, w .0))
 page-zero f len k limit i m (ListedBytes.bytes {x} r n) =
-    let past = slices-past f len k x (readable-found f len k limit r) i n in absurd (omega arith)
+    let past = slices-past f len k limit {x = x} (search readable-placed) i n in absurd (omega arith)
 
 -- of the header's words, neither is read in opening
 pub no-free-map : (f : File) (len i : ℕ) → standsAt f 0 bigMagic ≡ true → 36 ≤ i → i < 40 → ListedOpen f len i → ⊥

@@ -1,9 +1,11 @@
 pub mod Same
+pub mod NamedExactly
 pub mod StreamSame
 pub mod Isolation
 pub mod Boundary
 pub mod PageZero
 pub mod Corollaries
 pub mod Tight
+pub mod LikeF
 pub mod NotTooMuch
 pub mod Cases

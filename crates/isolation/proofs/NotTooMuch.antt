@@ -1,236 +1,221 @@
--- On file F: where the listed bytes of streams 0 and 2 stand, by computing F's header and the two streams once.
-use mathlib.Core.Path.{_≡_, refl, sym, _∙_, ap}
-use mathlib.Core.Bool.{true}
+-- On file F: a listed byte is one of the header's, the location list's, of a word that is asked for in the directory, or of
+-- the stream; that gives the ranges of each stream, and what lies beside them.
+use mathlib.Core.Path.{_≡_, refl, sym, _∙_}
+use mathlib.Core.Bool.{Bool, true, false, cond}
+use mathlib.Core.List.{List, [], _∷_}
 use mathlib.Core.Logic.{_⊎_, inl, inr, ⊎-elim}
-use Prim.Native.Nat.{ℕ, zero, suc, _+_, _*_, _/_, _%_, min, _≤_, _<_}
+use Prim.Native.Nat.{ℕ, zero, suc, _+_, _*_, _/_, _≤_, _<_}
 use native.Mathlib.Omega.{arith}
+use native.Mathlib.Nat.{le-refl}
 use borrow.Author.Tests.{leb-true}
-use lib.Count
-use Rattle.outcome.specs.Outcome.{Outcome, ok, _>>=_, _>>_, require}
-use Rattle.outcome.specs.Refusal as paper
-use Rattle.outcome.specs.Each.{each}
-use Rattle.outcome.proofs.OutcomeLaws.{ok-is}
-use Rattle.parse_buffer.specs.Bytes.{word}
-use Rattle.paged.specs.PageSize.{sizeFits, need}
-use Rattle.paged.specs.Pages.{location, directoryPage, directoryWord}
-use Rattle.paged.specs.Checks.{pageFits}
-use Rattle.header.specs.Header.{bigMagic, standsAt, sized, headed, located, directoryPages, locationPages, entries}
+use lib.Dec.{leb}
+use Rattle.outcome.specs.Outcome.{ok}
+use Rattle.outcome.proofs.OutcomeLaws.{below-or, and-true, ok-is}
+use Rattle.parse_buffer.specs.Bytes.{File}
+use Rattle.paged.specs.PageSize.{need}
+use Rattle.paged.specs.Pages.{through, directoryWord}
+use Rattle.header.specs.Header.{located, directoryPages}
 use Rattle.header.specs.declared.Header.{Header}
 use Rattle.directory.specs.Directory.{words, reached}
-use Rattle.stream.specs.Stream as stream
-use Rattle.stream.specs.Stream.{pagesOf, pagesBefore, ownPage, ownPages, listed}
+use Rattle.directory.proofs.DirectoryLaws.{reached-located}
+use Rattle.stream.specs.Stream.{ownPage, ownPages, listed}
 use Rattle.stream.specs.declared.Found.{Found}
-use Rattle.stream.proofs.FindLaws.{listed-at, found-at, first-at}
+use Rattle.stream.proofs.FindLaws.{listed-at, found-at}
+use Rattle.msf.specs.Msf.{lengthOf, placed}
 use Rattle.msf.specs.declared.limit.Limit.{Limit}
-use Rattle.container.specs.FileF.{fileF, F}
+use Rattle.msf.specs.declared.limit.Limit.the-variants.{None, AtMost}
+use Rattle.msf.proofs.PlaceLaws.{length-most}
+use Rattle.container.specs.FileF.{F}
 use Rattle.isolation.specs.Listed.{entryPlace, wordPlace, ListedOpen, ListedCount, Listed, ListedBytes}
-use Rattle.isolation.specs.Tight.{emptyF, NotListed, NotTooMuch}
-use Rattle.isolation.proofs.StreamSame.{readable-found}
-use Rattle.isolation.proofs.PageZero.{slices-from}
+use Rattle.isolation.specs.Tight.{changed, Within, startF, streamZero, streamTwo, NotListed, NotTooMuch}
+use Rattle.isolation.proofs.NamedExactly.{stream-byte}
+use Rattle.isolation.proofs.StreamSame.{placed-found, placed-size, readable-placed}
 use Rattle.isolation.proofs.Corollaries.{page-zero, no-free-map, no-reserved}
+use Rattle.isolation.proofs.LikeF.{Like, likeF, like-short, header-is, one-location, entry-at, word-at, listed-is, is-0, not-1, is-2, place-0, place-2, last-2}
 
--- ---- F, computed
-headerF : Header
-headerF = record { size = 256; used = 24; directory = 36 }
+-- ---- what a listed byte is, where the directory has n bytes
+data Asked (g : File) (k i : ℕ) : Type 0 where
+  count : 1024 ≤ i → i < 1028 → Asked g k i
+  size : k < 3 → 1028 ≤ i → i < 1032 + 4 * k → Asked g k i
+  own : {x : Found} → listed g 6144 k ≡ ok x → 1024 + 4 * x .first ≤ i → i < 1024 + 4 * (x .first + ownPages x) → Asked g k i
 
-streamF : ℕ → ℕ → Found
-streamF size first = record { header = headerF; size = size; first = first }
+data Part (g : File) (n k : ℕ) (limit : Limit) (i : ℕ) : Type 0 where
+  start : Within startF i → Part g n k limit i
+  word : i < 1024 + 4 * (n / 4) → Asked g k i → Part g n k limit i
+  byte : {j : ℕ} {x : Found} → listed g 6144 k ≡ ok x → j < lengthOf limit (x .size) → i ≡ through (x .header .size) (ownPage g x) j → Part g n k limit i
 
-record Computed : Type 0 where
-  big : standsAt F 0 bigMagic ≡ true
-  headed : headed F 6144 ≡ ok headerF
-  located : located F 6144 ≡ ok headerF
-  reached : reached F 6144 ≡ ok headerF
-  stream-0 : listed F 6144 0 ≡ ok (streamF 300 4)
-  stream-2 : listed F 6144 2 ≡ ok (streamF 600 6)
-  list : location F 0 ≡ 3
-  directory : directoryPage F 256 0 ≡ 4
-  pages-0 : (ownPage F (streamF 300 4) 0 ≡ 20) × (ownPage F (streamF 300 4) 1 ≡ 21)
-  pages-2 : (ownPage F (streamF 600 6) 0 ≡ 10) × (ownPage F (streamF 600 6) 1 ≡ 11) × (ownPage F (streamF 600 6) 2 ≡ 5)
-  words : words headerF ≡ 9
-  directory-pages : directoryPages headerF ≡ 1
-  location-pages : locationPages headerF ≡ 1
-  own-0 : ownPages (streamF 300 4) ≡ 2
-  own-2 : ownPages (streamF 600 6) ≡ 3
+module _ {g : File} {n : ℕ} (like : Like g n) (small : n ≤ 36) where
+  entry-of : {h : Header} → located g 6144 ≡ ok h → (j : ℕ) → j < directoryPages h → entryPlace g h j ≡ 768
+  entry-of o j l = let same = header-is like small o in rw same (entry-at like small j (rw same at l))
 
-computed : Computed
-unfolding headerF streamF F fileF _>>=_ _>>_ require each word sizeFits need location directoryPage directoryWord pageFits standsAt sized headed located reached pagesOf pagesBefore stream.sized listed Count.ones Count.onesIn
-computed =
-    record {
-      big = refl;
-      headed = refl;
-      located = refl;
-      reached = refl;
-      stream-0 = refl;
-      stream-2 = refl;
-      list = refl;
-      directory = refl;
-      pages-0 = (refl, refl);
-      pages-2 = (refl, refl, refl);
-      words = refl;
-      directory-pages = refl;
-      location-pages = refl;
-      own-0 = refl;
-      own-2 = refl;
-    }
+  record Directory (h : Header) : Type 0 where
+    held : words h ≡ n / 4
+    count : directoryWord g (h .size) 0 ≡ 3
+    word : (w : ℕ) → w < words h → wordPlace g h w ≡ 1024 + 4 * w
 
--- ---- where its lists stand
-header-is : {h : Header} {o : Outcome paper.Refusal Header} → o ≡ ok headerF → o ≡ ok h → h ≡ headerF
-header-is e o = ok-is (sym o ∙ e)
+  directory : {h : Header} → reached g 6144 ≡ ok h → Directory h
+  directory d =
+      rw (header-is like small (reached-located g 6144 d)) record { held = refl; count = like .count; word = word-at like small }
 
-entry-at : (j : ℕ) → j < directoryPages headerF → entryPlace F headerF j ≡ 768
-unfolding headerF
-entry-at j l =
-    let c = computed .directory-pages in
-    let z : j ≡ 0 = omega arith in
-    rw (z, computed .list)
+  part : (k : ℕ) (limit : Limit) (i : ℕ) → ListedBytes g 6144 k limit i → Part g n k limit i
+  part k limit i (ListedBytes.mapping (Listed.counting (ListedCount.opening (ListedOpen.start l)))) =
+      Part.start (inl (omega arith))
+  part k limit i (ListedBytes.mapping (Listed.counting (ListedCount.opening (ListedOpen.fields l m)))) =
+      Part.start (inr (inl (omega arith)))
+  part k limit i (ListedBytes.mapping (Listed.counting (ListedCount.opening (ListedOpen.small e _ _)))) =
+      let big = like .big in absurd (let z : _≡_ {A = ℕ} 0 1 = cc in omega arith)
+  part k limit i (ListedBytes.mapping (Listed.counting (ListedCount.opening (ListedOpen.locations o l w)))) =
+      let few = one-location like small in
+      let m = rw (ok-is (sym o ∙ like .headed)) at l in
+      Part.start (inr (inr (inl (omega (arith, w .0, w .1)))))
+  part k limit i (ListedBytes.mapping (Listed.counting (ListedCount.list {j} o _ l w))) =
+      let e = entry-of o j (omega arith) in
+      Part.start (inr (inr (inr (inl (omega (arith, w .0, w .1))))))
+  part k limit i (ListedBytes.mapping (Listed.counting (ListedCount.count d t w))) =
+      let r = directory d in
+      let e = r .word 0 (omega (arith, leb-true)) in
+      Part.word (omega (arith, leb-true, w .1)) (Asked.count (omega (arith, w .0)) (omega (arith, w .1)))
+  part k limit i (ListedBytes.mapping (Listed.sizes {j} d l m t w)) =
+      let r = directory d in
+      let e = r .word (1 + j) (omega (arith, leb-true)) in
+      Part.word (omega (arith, leb-true, w .1)) (Asked.size (omega arith) (omega (arith, w .0)) (omega (arith, w .1)))
+  part k limit i (ListedBytes.mapping (Listed.pages {j} {x} s l t w)) =
+      let r = directory (listed-at g 6144 k s .reached) in
+      let e = r .word (x .first + j) (omega (arith, leb-true)) in
+      Part.word (omega (arith, leb-true, w .1)) (Asked.own s (omega (arith, w .0)) (omega (arith, w .1)))
+  part k limit i (ListedBytes.bytes {x} r m) =
+      let p : placed g 6144 k limit ≡ ok x = search readable-placed in
+      let b = stream-byte g 6144 k limit p i m in
+      let size = placed-size g 6144 k limit p in
+      Part.byte {j = b .index} (found-at g 6144 k (placed-found g 6144 k limit p) .listed) (omega (arith, b .below)) (b .at)
 
-word-at : (w : ℕ) → w < words headerF → wordPlace F headerF w ≡ 1024 + 4 * w
-unfolding headerF
-word-at w l =
-    let c = computed .words in
-    let z : 4 * w / 256 ≡ 0 = omega arith in
-    let r : 4 * w % 256 ≡ 4 * w = omega arith in
-    rw (z, r, computed .directory)
+-- ---- stream by stream
+abbrev Parts : (k : ℕ) → Limit → List (ℕ × ℕ) → Type 0
+Parts k limit ranges = (i : ℕ) → Part F 36 k limit i → Within startF i ⊎ Within ranges i
 
-entry-of : {h : Header} → located F 6144 ≡ ok h → (j : ℕ) → j < directoryPages h → entryPlace F h j ≡ 768
-entry-of o j l = let same = header-is (computed .located) o in rw same (entry-at j (rw same at l))
+-- of the streams that are there, where at most n bytes are asked for
+parts-0 : (limit : Limit) (n : ℕ) → lengthOf limit 300 ≤ n → Parts 0 limit (streamZero n)
+unfolding need
+parts-0 limit n f i (Part.start w) = inl w
+parts-0 limit n f i (Part.word _ (Asked.count a b)) = inr (inl (omega arith))
+parts-0 limit n f i (Part.word _ (Asked.size a b c)) = inr (inl (omega arith))
+parts-0 limit n f i (Part.word _ (Asked.own s a b)) =
+    let same = is-0 likeF (omega arith) s in
+    let from = rw same at a in
+    let to = rw same at b in
+    inr (inr (inl (omega arith)))
+parts-0 limit n f i (Part.byte {j} s l e) =
+    let same = is-0 likeF (omega arith) s in
+    let below = rw same at l in
+    let most = length-most limit 300 in
+    let place = rw same at e ∙ place-0 likeF (omega arith) j (omega arith) in
+    inr (inr (inr (inl (omega arith))))
 
-word-of : {h : Header} → reached F 6144 ≡ ok h → (w : ℕ) → w < words h → wordPlace F h w ≡ 1024 + 4 * w
-word-of d w l = let same = header-is (computed .reached) d in rw same (word-at w (rw same at l))
+parts-2 : (limit : Limit) (n : ℕ) → lengthOf limit 600 ≤ n → Parts 2 limit (streamTwo n)
+unfolding need
+parts-2 limit n f i (Part.start w) = inl w
+parts-2 limit n f i (Part.word _ (Asked.count a b)) = inr (inl (omega arith))
+parts-2 limit n f i (Part.word _ (Asked.size a b c)) = inr (inl (omega arith))
+parts-2 limit n f i (Part.word _ (Asked.own s a b)) =
+    let same = is-2 likeF (omega arith) s in
+    let from = rw same at a in
+    let to = rw same at b in
+    inr (inr (inl (omega arith)))
+parts-2 limit n f i (Part.byte {j} s l e) =
+    let same = is-2 likeF (omega arith) s in
+    let below = rw same at l in
+    let most = length-most limit 600 in
+    let place = rw same at e in
+    ⊎-elim
+    (λ (m : j < 512). let at = place ∙ place-2 likeF (omega arith) j m in inr (inr (inr (inl (omega arith)))))
+    (λ (m : 512 ≤ j). let at = place ∙ last-2 likeF (omega arith) j m (omega arith) in inr (inr (inr (inr (inl (omega arith))))))
+    (below-or j 512)
 
--- ---- of a stream whose pages start past page 4: what is listed past the location list is the count, a size up to its
--- own, or one of its own entries
-module _ (k : ℕ) (x₀ : Found) (is : listed F 6144 k ≡ ok x₀) (starts : (j : ℕ) → j < ownPages x₀ → 1280 ≤ ownPage F x₀ j * x₀ .header .size) where
-  record Own (i : ℕ) : Type 0 where
-    from : 1024 + 4 * x₀ .first ≤ i
-    to : i < 1024 + 4 * (x₀ .first + ownPages x₀)
+parts-1 : (limit : Limit) → Parts 1 limit ((1024, 1036) ∷ [])
+parts-1 limit i (Part.start w) = inl w
+parts-1 limit i (Part.word _ (Asked.count a b)) = inr (inl (omega arith))
+parts-1 limit i (Part.word _ (Asked.size a b c)) = inr (inl (omega arith))
+parts-1 limit i (Part.word _ (Asked.own s a b)) = absurd (not-1 likeF (omega arith) s)
+parts-1 limit i (Part.byte s l e) = absurd (not-1 likeF (omega arith) s)
 
-  spot : (i : ℕ) (limit : Limit) → 772 ≤ i → i < 1280 → ListedBytes F 6144 k limit i → (i < 1032 + 4 * k) ⊎ Own i
-  spot i limit low high (ListedBytes.mapping (Listed.counting (ListedCount.opening (ListedOpen.start n)))) =
-      absurd (omega arith)
-  spot i limit low high (ListedBytes.mapping (Listed.counting (ListedCount.opening (ListedOpen.fields _ n)))) =
-      absurd (omega arith)
-  spot i limit low high (ListedBytes.mapping (Listed.counting (ListedCount.opening (ListedOpen.small _ _ n)))) =
-      absurd (omega arith)
-  spot i limit low high (ListedBytes.mapping (Listed.counting (ListedCount.opening (ListedOpen.locations {j} o l w)))) =
-      let same = header-is (computed .headed) o in
-      let m : j < min (locationPages headerF) entries = rw same at l in
-      let c = computed .location-pages in
-      absurd (omega (arith, w .1))
-  spot i limit low high (ListedBytes.mapping (Listed.counting (ListedCount.list {j} o inside l w))) =
-      let e = entry-of o j l in absurd (omega (arith, w .1))
-  spot i limit low high (ListedBytes.mapping (Listed.counting (ListedCount.count d t w))) =
-      let e = word-of d 0 (leb-true _ _ t) in inl (omega (arith, w .1))
-  spot i limit low high (ListedBytes.mapping (Listed.sizes {j} {h} d _ m t w)) =
-      let held : 2 + j ≤ words h = leb-true _ _ t in
-      let e = word-of d (1 + j) (omega arith) in inl (omega (arith, w .1))
-  spot i limit low high (ListedBytes.mapping (Listed.pages {j} {x} s l t w)) =
-      let held : x .first + j + 1 ≤ words (x .header) = leb-true _ _ t in
-      let e = word-of (listed-at F 6144 k s .reached) (x .first + j) (omega arith) in
-      let same : x ≡ x₀ = ok-is (sym s ∙ is) in
-      let first : x .first ≡ x₀ .first = ap (λ (y : Found). y .first) same in
-      let own : ownPages x ≡ ownPages x₀ = ap ownPages same in
-      inr (record { from = omega (arith, w .0); to = omega (arith, w .1) })
-  spot i limit low high (ListedBytes.bytes {x} r n) =
-      let at = found-at F 6144 k (readable-found F 6144 k limit r) in
-      let same : x .found ≡ x₀ = ok-is (sym (at .listed) ∙ is) in
-      let past = slices-from 1280 F x (rw same starts) i n in
-      absurd (omega arith)
+parts-more : (k : ℕ) (limit : Limit) → 3 ≤ k → Parts k limit ((1024, 1028) ∷ [])
+parts-more k limit l i (Part.start w) = inl w
+parts-more k limit l i (Part.word _ (Asked.count a b)) = inr (inl (omega arith))
+parts-more k limit l i (Part.word _ (Asked.size a b c)) = absurd (omega arith)
+parts-more k limit l i (Part.word _ (Asked.own s a b)) = absurd (let x = listed-is likeF (omega arith) k s .below in omega arith)
+parts-more k limit l i (Part.byte s m e) = absurd (let x = listed-is likeF (omega arith) k s .below in omega arith)
 
-starts-0 : (j : ℕ) → j < ownPages (streamF 300 4) → 1280 ≤ ownPage F (streamF 300 4) j * streamF 300 4 .header .size
-unfolding streamF headerF
-starts-0 zero l = rw (computed .pages-0 .0) (omega arith)
-starts-0 (suc zero) l = rw (computed .pages-0 .1) (omega arith)
-starts-0 (suc (suc j)) l = let c = computed .own-0 in absurd (omega arith)
+-- ---- beside the ranges
+-- whether a range has no byte from a up to b, and whether none has
+apart : ℕ × ℕ → ℕ → ℕ → Bool
+apart range a b = cond (leb (range .1) a) true (leb b (range .0))
 
-starts-2 : (j : ℕ) → j < ownPages (streamF 600 6) → 1280 ≤ ownPage F (streamF 600 6) j * streamF 600 6 .header .size
-unfolding streamF headerF
-starts-2 zero l = rw (computed .pages-2 .0) (omega arith)
-starts-2 (suc zero) l = rw (computed .pages-2 .1) (omega arith)
-starts-2 (suc (suc zero)) l = rw (computed .pages-2 .2) (omega arith)
-starts-2 (suc (suc (suc j))) l = let c = computed .own-2 in absurd (omega arith)
+clear : List (ℕ × ℕ) → ℕ → ℕ → Bool
+clear [] a b = true
+clear (range ∷ rest) a b = cond (apart range a b) (clear rest a b) false
 
-spot-0 : (i : ℕ) (limit : Limit) → 772 ≤ i → i < 1280 → ListedBytes F 6144 0 limit i → (i < 1032) ⊎ ((1040 ≤ i) × (i < 1048))
-unfolding streamF
-spot-0 i limit low high l =
-    let c = computed .own-0 in
-    ⊎-elim (λ m. inl m) (λ o. inr (omega (arith, o .from), omega (arith, o .to)))
-    (spot 0 (streamF 300 4) (computed .stream-0) starts-0 i limit low high l)
+off-one : (range : ℕ × ℕ) {a b : ℕ} (i : ℕ) → a ≤ i → i < b → apart range a b ≡ true → range .0 ≤ i → i < range .1 → ⊥
+unfolding apart
+off-one range {a} {b} i l m c x y = go (leb (range .1) a) refl c
+  where
+    go : (t : Bool) → leb (range .1) a ≡ t → cond t true (leb b (range .0)) ≡ true → ⊥
+    go true e d = omega (arith, leb-true)
+    go false e d = omega (arith, leb-true)
 
-spot-2 : (i : ℕ) (limit : Limit) → 772 ≤ i → i < 1280 → ListedBytes F 6144 2 limit i → (i < 1040) ⊎ (1048 ≤ i)
-unfolding streamF
-spot-2 i limit low high l =
-    ⊎-elim (λ m. inl m) (λ o. inr (omega (arith, o .from)))
-    (spot 2 (streamF 600 6) (computed .stream-2) starts-2 i limit low high l)
+off : (ranges : List (ℕ × ℕ)) {a b : ℕ} (i : ℕ) → a ≤ i → i < b → clear ranges a b ≡ true → Within ranges i → ⊥
+unfolding clear
+off (range ∷ rest) {a} {b} i l m c (inl x) = off-one range i l m (and-true (apart range a b) (clear rest a b) c .0) (x .0) (x .1)
+off (range ∷ rest) {a} {b} i l m c (inr x) = off rest i l m (and-true (apart range a b) (clear rest a b) c .1) x
 
--- ---- directory_size 0: the directory has no page and no word
-headerE : Header
-headerE = record { size = 256; used = 24; directory = 0 }
+beside : (ranges : List (ℕ × ℕ)) {a b : ℕ} (i : ℕ) → a ≤ i → i < b → clear startF a b ≡ true → clear ranges a b ≡ true → Within startF i ⊎ Within ranges i → ⊥
+beside ranges i l m c d = ⊎-elim (off startF i l m c) (off ranges i l m d)
 
-record Empty : Type 0 where
-  headed : headed emptyF 6144 ≡ ok headerE
-  located : located emptyF 6144 ≡ ok headerE
-  reached : reached emptyF 6144 ≡ ok headerE
-  words : words headerE ≡ 0
-  directory-pages : directoryPages headerE ≡ 0
-  location-pages : locationPages headerE ≡ 0
+-- every stream's bytes stand past page 4
+past-four : {g : File} {n : ℕ} → Like g n → n ≤ 36 → (k : ℕ) (limit : Limit) {j : ℕ} {x : Found} → listed g 6144 k ≡ ok x → j < lengthOf limit (x .size) → 1280 ≤ through (x .header .size) (ownPage g x) j
+past-four like small zero limit {j} s l =
+    let same = is-0 like small s in
+    let below = rw same at l in
+    let most = length-most limit 300 in
+    rw (same, place-0 like small j (omega arith)) (omega arith)
+past-four like small (suc zero) limit s l = absurd (not-1 like small s)
+past-four like small (suc (suc zero)) limit {j} s l =
+    let same = is-2 like small s in
+    let below = rw same at l in
+    let most = length-most limit 600 in
+    ⊎-elim
+    (λ (m : j < 512). rw (same, place-2 like small j m) (omega arith))
+    (λ (m : 512 ≤ j). rw (same, last-2 like small j m (omega arith)) (omega arith))
+    (below-or j 512)
+past-four like small (suc (suc (suc k))) limit s l = absurd (let below = listed-is like small (suc (suc (suc k))) s .below in omega arith)
 
-empty : Empty
-unfolding headerE F fileF _>>=_ _>>_ require each word sizeFits need location directoryPage pageFits standsAt sized headed located reached Count.ones Count.onesIn
-empty =
-    record {
-      headed = refl;
-      located = refl;
-      reached = refl;
-      words = refl;
-      directory-pages = refl;
-      location-pages = refl;
-    }
+not-held : (n k i : ℕ) → n ≤ 36 → 1024 + 4 * (n / 4) ≤ i → i < 1280 → NotListed (changed F 44 n) k i
+unfolding apart clear
+not-held n k i small l m limit x = go (part (like-short n) small k limit i x)
+  where
+    go : Part (changed F 44 n) n k limit i → ⊥
+    go (Part.start w) = let past : 1024 ≤ i = omega arith in off startF i past m refl w
+    go (Part.word h _) = omega arith
+    go (Part.byte s b e) = let past = past-four (like-short n) small k limit s b in omega arith
 
-no-words : {h : Header} → reached emptyF 6144 ≡ ok h → words h ≡ 0
-no-words d = let same = ok-is (sym (empty .reached) ∙ d) in rw (← same) (empty .words)
-
-page-four : (k i : ℕ) → 1024 ≤ i → i < 1280 → NotListed emptyF k i
-page-four k i low high limit (ListedBytes.mapping (Listed.counting (ListedCount.opening (ListedOpen.start n)))) = omega arith
-page-four k i low high limit (ListedBytes.mapping (Listed.counting (ListedCount.opening (ListedOpen.fields _ n)))) = omega arith
-page-four k i low high limit (ListedBytes.mapping (Listed.counting (ListedCount.opening (ListedOpen.small _ _ n)))) = omega arith
-page-four k i low high limit (ListedBytes.mapping (Listed.counting (ListedCount.opening (ListedOpen.locations {j} o l w)))) =
-    let same = ok-is (sym o ∙ empty .headed) in
-    let m : j < min (locationPages headerE) entries = rw same at l in
-    let c = empty .location-pages in
-    omega arith
-page-four k i low high limit (ListedBytes.mapping (Listed.counting (ListedCount.list {j} o inside l w))) =
-    let same = ok-is (sym o ∙ empty .located) in
-    let m : j < directoryPages headerE = rw same at l in
-    let c = empty .directory-pages in
-    omega arith
-page-four k i low high limit (ListedBytes.mapping (Listed.counting (ListedCount.count {h} d t w))) =
-    let held : 1 ≤ words h = leb-true _ _ t in
-    let none = no-words d in
-    omega arith
-page-four k i low high limit (ListedBytes.mapping (Listed.sizes {j} {h} d _ _ t w)) =
-    let held : 2 + j ≤ words h = leb-true _ _ t in
-    let none = no-words d in
-    omega arith
-page-four k i low high limit (ListedBytes.mapping (Listed.pages {j} {x} s l t w)) =
-    let held : x .first + j + 1 ≤ words (x .header) = leb-true _ _ t in
-    let none = no-words (listed-at emptyF 6144 k s .reached) in
-    omega arith
-page-four k i low high limit (ListedBytes.bytes {x} r n) =
-    let at = found-at emptyF 6144 k (readable-found emptyF 6144 k limit r) in
-    let inside = at .inside in
-    let first = first-at emptyF 6144 k (at .listed) .first in
-    let none = no-words (at .reached) in
-    omega arith
+list : (k : ℕ) (limit : Limit) (i : ℕ) → ListedBytes F 6144 k limit i → Part F 36 k limit i
+list = part likeF (omega arith)
 
 pub not-too-much : NotTooMuch
+unfolding apart clear
 not-too-much =
     record {
-      free-page-map = λ k i l m limit x. no-free-map F 6144 i (computed .big) l m (page-zero F 6144 k limit i (omega arith) x);
+      stream-0 = λ limit i x. parts-0 limit _ (le-refl _) i (list 0 limit i x);
+      stream-2 = λ limit i x. parts-2 limit _ (le-refl _) i (list 2 limit i x);
+      stream-1 = λ limit i x. parts-1 limit i (list 1 limit i x);
+      not-below = λ k limit l i x. parts-more k limit l i (list k limit i x);
+      not-held = not-held;
+      free-page-map = λ k i l m limit x. no-free-map F 6144 i (likeF .big) l m (page-zero F 6144 k limit i (omega arith) x);
       reserved = λ k i l m limit x. no-reserved F 6144 i l m (page-zero F 6144 k limit i (omega arith) x);
-      sizes-after = λ i l m limit x. ⊎-elim (λ y. omega arith) (λ y. omega (arith, y .0)) (spot-0 i limit (omega arith) (omega arith) x);
-      entries-of-0 = λ i l m limit x. ⊎-elim (λ y. omega arith) (λ y. omega arith) (spot-2 i limit (omega arith) (omega arith) x);
-      entries-of-2 = λ i l m limit x. ⊎-elim (λ y. omega arith) (λ y. omega (arith, y .1)) (spot-0 i limit (omega arith) (omega arith) x);
-      page-four = page-four;
+      sizes-after = λ i l m limit x. beside (streamZero 300) i l m refl refl (parts-0 limit _ (length-most limit 300) i (list 0 limit i x));
+      entries-of-0 = λ i l m limit x. beside (streamTwo 600) i l m refl refl (parts-2 limit _ (length-most limit 600) i (list 2 limit i x));
+      entries-of-2 = λ i l m limit x. beside (streamZero 300) i l m refl refl (parts-0 limit _ (length-most limit 300) i (list 0 limit i x));
+      pages-of-0 = λ i l m limit x. beside (streamTwo 600) i l m refl refl (parts-2 limit _ (length-most limit 600) i (list 2 limit i x));
+      slack = λ i l m x. beside (streamTwo 600) i l m refl refl (parts-2 None 600 (omega arith) i (list 2 None i x));
+      past-the-cut = λ i l m x. beside (streamTwo 513) i l m refl refl (parts-2 (AtMost 513) 513 (omega arith) i (list 2 (AtMost 513) i x));
+      page-four = λ k i l. not-held 0 k i (omega arith) (omega arith);
     }

@@ -1,11 +1,9 @@
 -- Page 0 is refused wherever a page number is read, so what is listed through a page stands past the first 256 bytes.
 use mathlib.Core.Path.{_≡_}
-use mathlib.Core.Bool.{Bool, true, false, cond}
-use mathlib.Core.List.{List, [], _∷_, _++_}
-use Prim.Native.Nat.{ℕ, zero, suc, _-_, _*_, _/_, min, _≤_, _<_}
+use mathlib.Core.Bool.{true}
+use Prim.Native.Nat.{ℕ, zero, suc, _*_, _/_, min, _≤_, _<_}
 use native.Mathlib.Omega.{arith}
 use native.Mathlib.Nat.{mul-le-mul}
-use lib.Dec.{eqb}
 use Rattle.outcome.specs.Outcome.{ok, _>>=_, _>>_}
 use Rattle.outcome.proofs.OutcomeLaws.{came, came-by, ok-is}
 use Rattle.outcome.proofs.EachLaws.{each-passed}
@@ -19,12 +17,14 @@ use Rattle.header.specs.declared.Header.{Header}
 use Rattle.header.proofs.OpenLaws.{is-located}
 use Rattle.directory.specs.Directory.{words, reached}
 use Rattle.directory.proofs.DirectoryLaws.{reached-size}
-use Rattle.stream.specs.Stream.{ownPage, ownPages, found}
+use Rattle.stream.specs.Stream.{ownPage, ownPages}
 use Rattle.stream.proofs.FindLaws.{found-at}
-use Rattle.slices.specs.Slices.{lengthen, continues, slicesOf, cut}
-use Rattle.slices.specs.declared.SourceSlice.{SourceSlice}
-use Rattle.msf.specs.Msf.{Placed, slicesIn}
+use Rattle.msf.specs.Msf.{Placed, placed, slicesIn}
+use Rattle.msf.specs.declared.limit.Limit.{Limit}
+use Rattle.container.proofs.Statements.{large}
 use Rattle.isolation.specs.Listed.{entryPlace, wordPlace, Named}
+use Rattle.isolation.proofs.NamedExactly.{stream-byte}
+use Rattle.isolation.proofs.StreamSame.{placed-found, few}
 
 -- a page number that fits is not 0, so its page starts past page 0
 fits-positive : (used n : ℕ) → pageFits used n ≡ true → 0 < n
@@ -32,7 +32,7 @@ unfolding pageFits
 fits-positive used zero e = absurd (let z : _≡_ {A = ℕ} 0 1 = cc in omega arith)
 fits-positive used (suc n) e = omega arith
 
-pub past : (used p : ℕ) (page : ℕ → ℕ) (n : ℕ) → PageSize p → checkPages used page n ≡ ok tt → (i : ℕ) → i / p < n → 256 ≤ through p page i
+past : (used p : ℕ) (page : ℕ → ℕ) (n : ℕ) → PageSize p → checkPages used page n ≡ ok tt → (i : ℕ) → i / p < n → 256 ≤ through p page i
 past used p page n s e i l =
     let q = fits-positive used (page (i / p)) (each-passed _ _ n e (i / p) l) in
     let m : 1 * p ≤ page (i / p) * p = mul-le-mul q (omega arith) in
@@ -71,53 +71,12 @@ module _ (f : File) (len : ℕ) where
       past (h .used) (h .size) (directoryPage f (h .size)) (directoryPages h) (reached-size f len d) (reached-checked d) (4 * w)
       (need-index (h .size) (h .directory) (omega arith) (4 * w) (omega arith))
 
--- slices that all start at b or later
-data From (b : ℕ) : List SourceSlice → Type 0 where
-  none : From b []
-  one : {s : SourceSlice} {rest : List SourceSlice} → b ≤ s .offset → From b rest → From b (s ∷ rest)
-
-module _ (b : ℕ) where
-  either : (t : Bool) {xs ys : List SourceSlice} → From b xs → From b ys → From b (cond t xs ys)
-  either true x y = x
-  either false x y = y
-
-  from-lengthen : (r : ℕ) (xs : List SourceSlice) → From b xs → From b (lengthen r xs)
-  unfolding lengthen
-  from-lengthen r [] h = h
-  from-lengthen r (s ∷ []) (From.one l h) = From.one l h
-  from-lengthen r (s ∷ t ∷ rest) (From.one l h) = From.one l (from-lengthen r (t ∷ rest) h)
-
-  from-snoc : (xs : List SourceSlice) (s : SourceSlice) → From b xs → b ≤ s .offset → From b (xs ++ s ∷ [])
-  from-snoc [] s h l = From.one l h
-  from-snoc (x ∷ xs) s (From.one m h) l = From.one m (from-snoc xs s h l)
-
-  from-slices : (p : ℕ) (page : ℕ → ℕ) (n : ℕ) → ((j : ℕ) → j < n → b ≤ page j * p) → From b (slicesOf p page n)
-  unfolding slicesOf
-  from-slices p page zero h = From.none
-  from-slices p page (suc n) h =
-      let before = from-slices p page n (λ j l. h j (omega arith)) in
-      either (continues page n) (from-lengthen p (slicesOf p page n) before) (from-snoc (slicesOf p page n) _ before (h n (omega arith)))
-
-  from-cut : (n : ℕ) (xs : List SourceSlice) → From b xs → From b (cut n xs)
-  unfolding cut
-  from-cut n [] h = h
-  from-cut n (s ∷ rest) (From.one l h) = either (eqb n 0) From.none (From.one l (from-cut (n - s .size) rest h))
-
-  from-named : (xs : List SourceSlice) (i : ℕ) → From b xs → Named xs i → b ≤ i
-  from-named (s ∷ rest) i (From.one l h) (Named.here m _) = omega arith
-  from-named (s ∷ rest) i (From.one l h) (Named.there m) = from-named rest i h m
-
-  -- what slices name is not before the first of their pages
-  pub slices-from : (f : File) (x : Placed) → ((j : ℕ) → j < ownPages (x .found) → b ≤ ownPage f (x .found) j * x .found .header .size) → (i : ℕ) → Named (slicesIn f x) i → b ≤ i
-  slices-from f x starts i n =
-      from-named (slicesIn f x) i
-      (from-cut (x .size) _ (from-slices (x .found .header .size) (ownPage f (x .found)) (ownPages (x .found)) starts)) n
-
-pub slices-past : (f : File) (len k : ℕ) (x : Placed) → found f len k ≡ ok (x .found) → (i : ℕ) → Named (slicesIn f x) i → 256 ≤ i
-slices-past f len k x e =
-    let at = found-at f len k e in
-    let least = reached-size f len (at .reached) .least in
-    slices-from 256 f x λ j l.
-    let q = fits-positive (x .found .header .used) (ownPage f (x .found) j) (each-passed _ _ (ownPages (x .found)) (at .checked) j l) in
-    let m : 1 * x .found .header .size ≤ ownPage f (x .found) j * x .found .header .size = mul-le-mul q (omega arith) in
-    omega arith
+-- so does what a stream's slices name
+pub slices-past : (f : File) (len k : ℕ) (limit : Limit) {x : Placed} → placed f len k limit ≡ ok x → (i : ℕ) → Named (slicesIn f x) i → 256 ≤ i
+slices-past f len k limit {x} p i n =
+    let at = found-at f len k (placed-found f len k limit p) in
+    let b = stream-byte f len k limit p i n in
+    let all = few f len k limit p in
+    let page = need-index (x .found .header .size) (x .size) (large f len k limit p) (b .index) (b .below) in
+    rw (b .at)
+    (past (x .found .header .used) (x .found .header .size) (ownPage f (x .found)) (ownPages (x .found)) (reached-size f len (at .reached)) (at .checked) (b .index) (omega arith))

@@ -1,18 +1,19 @@
 -- Stage by stage, each over the smallest list: two files that agree on the listed bytes give the same outcome. Each proof
 -- follows its stage's `do` block line by line: `then-same` and `bind-same` hand on that the line is reached, which is what a
--- list asks.
+-- list asks. That a byte is listed is shown afresh each time (`omega`, `cc`), so a list that is too long passes here as it
+-- should: `NamedExactly`, `Corollaries` and `NotTooMuch` refuse it.
 use mathlib.Core.Path.{_≡_, refl, _∙_, ap}
 use mathlib.Core.Bool.{Bool, true, false, cond}
 use mathlib.Core.Logic.{⊎-elim}
 use mathlib.Core.List.{List}
 use Prim.Native.Nat.{ℕ, _*_, _/_, min, _<_}
 use native.Mathlib.Omega.{arith}
-use borrow.Author.Tests.{leb-true}
+use borrow.Author.Tests.{leb-true, le-leb}
 use Rattle.outcome.specs.Outcome.{Outcome, ok, refused, _>>=_, _>>_, require}
 use Rattle.outcome.specs.Store.{written}
 use Rattle.outcome.proofs.OutcomeLaws.{below-or, passed, came, came-by, ok-is}
 use Rattle.outcome.proofs.EachLaws.{each-same}
-use Rattle.parse_buffer.specs.Bytes.{File, word}
+use Rattle.parse_buffer.specs.Bytes.{File}
 use Rattle.parse_buffer.proofs.WordLaws.{word-same}
 use Rattle.paged.specs.Refusal.{refusalIn}
 use Rattle.paged.specs.Pages.{location, directoryPage, directoryWord}
@@ -43,9 +44,6 @@ unfolding written
 written-same {x = ok a} s t store e h = rw (h a refl) (ap (λ z. written z t store) e)
 written-same {x = refused why} s t store e h = ap (λ z. written z t store) e
 
-word-in : {f g : File} {at : ℕ} → ((i : ℕ) → InWord at i → f i ≡ g i) → word f at ≡ word g at
-word-in h = word-same (λ i l m. h i (l, m))
-
 pub check-same : (used : ℕ) {p q : ℕ → ℕ} (n : ℕ) → ((j : ℕ) → j < n → p j ≡ q j) → checkPages used p n ≡ checkPages used q n
 check-same used n h = each-same n (λ j l. rw (h j l)) (λ j l. rw (h j l))
 
@@ -57,9 +55,9 @@ module _ (f g : File) (len : ℕ) (agree : Agree (ListedOpen f len) f g) where
   header-same : headerOf f ≡ headerOf g
   header-same =
       rw (
-        word-in {at = 32} (λ i w. agree i (ListedOpen.start (omega (arith, w .0, w .1)))),
-        word-in {at = 40} (λ i w. agree i (ListedOpen.fields (w .0) (omega (arith, w .1)))),
-        word-in {at = 44} (λ i w. agree i (ListedOpen.fields (omega (arith, w .0)) (omega (arith, w .1)))),
+        word-same {at = 32} (λ i l m. agree i (ListedOpen.start (omega arith))),
+        word-same {at = 40} (λ i l m. agree i (ListedOpen.fields (omega arith) (omega arith))),
+        word-same {at = 44} (λ i l m. agree i (ListedOpen.fields (omega arith) (omega arith))),
       )
 
   big-same : standsAt f 0 bigMagic ≡ standsAt g 0 bigMagic
@@ -67,8 +65,8 @@ module _ (f g : File) (len : ℕ) (agree : Agree (ListedOpen f len) f g) where
 
   small-listed : (i : ℕ) → standsAt f 0 bigMagic ≡ false → i < 42 → ListedOpen f len i
   small-listed i e m =
-      ⊎-elim (λ l. ListedOpen.start l)
-      (λ l. ⊎-elim (λ l′. ListedOpen.small e l l′) (λ l′. ListedOpen.fields l′ (omega arith)) (below-or i 40))
+      ⊎-elim (λ l. ListedOpen.start (omega arith))
+      (λ l. ⊎-elim (λ l′. ListedOpen.small (cc) (omega arith) (omega arith)) (λ l′. ListedOpen.fields (omega arith) (omega arith)) (below-or i 40))
       (below-or i 36)
 
   -- where the big magic stands the small one is not asked; where it does not, bytes 36 to 39 are listed too
@@ -90,7 +88,7 @@ module _ (f g : File) (len : ℕ) (agree : Agree (ListedOpen f len) f g) where
 
   location-listed : {h : Header} → headed f len ≡ ok h → (j : ℕ) → j < min (locationPages h) entries → location f j ≡ location g j
   unfolding location
-  location-listed o j l = word-in λ i w. agree i (ListedOpen.locations o l w)
+  location-listed o j l = word-same λ i a b. agree i (ListedOpen.locations {j = j} o (omega arith) (omega arith))
 
   pub located-same : located f len ≡ located g len
   unfolding located
@@ -106,6 +104,16 @@ module _ (f g : File) (len : ℕ) (agree : Agree (ListedOpen f len) f g) where
       location-listed (x .headed) j (omega arith)
 
 -- ---- the stream count
+pub reached-inside : (f : File) (len : ℕ) {h : Header} → reached f len ≡ ok h → liesInFile len (h .size) (location f) (4 * directoryPages h) (locationPages h) ≡ ok tt
+unfolding reached
+reached-inside f len {h} e =
+    came-by _ _ e λ h₀ _ e₁.
+    came _ _ e₁ λ _ inside e₂.
+    came _ _ e₂ λ _ _ e₃.
+    came _ _ e₃ λ _ _ e₄.
+    let same : h₀ ≡ h = ok-is e₄ in
+    rw (← same) inside
+
 module _ (f g : File) (len : ℕ) (agree : Agree (ListedCount f len) f g) where
   opens : Agree (ListedOpen f len) f g
   opens i l = agree i (ListedCount.opening l)
@@ -114,9 +122,10 @@ module _ (f g : File) (len : ℕ) (agree : Agree (ListedCount f len) f g) where
     entry-same : (j : ℕ) → j < directoryPages h → directoryPage f (h .size) j ≡ directoryPage g (h .size) j
     unfolding directoryPage
     entry-same j l =
-        let s = is-located f len o .size .least in
+        let at = is-located f len o in
+        let s = at .size .least in
         rw (← location-same f g len opens o (4 * j / h .size) (need-index (h .size) (4 * directoryPages h) (omega arith) (4 * j) (omega arith)))
-        (word-in λ i w. agree i (ListedCount.list o inside l w))
+        (word-same λ i a b. agree i (ListedCount.list {j = j} {h = h} (cc) inside (omega arith) (omega arith)))
 
   pub reached-same : reached f len ≡ reached g len
   unfolding reached
@@ -127,27 +136,17 @@ module _ (f g : File) (len : ℕ) (agree : Agree (ListedCount f len) f g) where
       then-same (lies-same _ _ _ _ (entry-same o inside)) λ _ _.
       refl
 
-  reached-inside : {h : Header} → reached f len ≡ ok h → liesInFile len (h .size) (location f) (4 * directoryPages h) (locationPages h) ≡ ok tt
-  unfolding reached
-  reached-inside {h} e =
-      came-by _ _ e λ h₀ _ e₁.
-      came _ _ e₁ λ _ inside e₂.
-      came _ _ e₂ λ _ _ e₃.
-      came _ _ e₃ λ _ _ e₄.
-      let same : h₀ ≡ h = ok-is e₄ in
-      rw (← same) inside
-
   module _ {h : Header} (d : reached f len ≡ ok h) where
     -- a word that the directory holds: its page number is the same, and so the word, where its own four bytes are listed
     pub held-same : (w : ℕ) → w < words h → ((i : ℕ) → InWord (wordPlace f h w) i → f i ≡ g i) → directoryWord f (h .size) w ≡ directoryWord g (h .size) w
     unfolding directoryWord
     held-same w t same =
         let s = reached-size f len d .least in
-        rw (← entry-same (reached-located f len d) (reached-inside d) (4 * w / h .size) (need-index (h .size) (h .directory) (omega arith) (4 * w) (omega arith)))
-        (word-in same)
+        rw (← entry-same (reached-located f len d) (reached-inside f len d) (4 * w / h .size) (need-index (h .size) (h .directory) (omega arith) (4 * w) (omega arith)))
+        (word-same λ i a b. same i (omega arith))
 
     pub count-same : holds h 1 ≡ true → directoryWord f (h .size) 0 ≡ directoryWord g (h .size) 0
-    count-same t = held-same 0 (leb-true _ _ t) (λ i w. agree i (ListedCount.count d t w))
+    count-same t = held-same 0 (leb-true _ _ t) (λ i w. agree i (ListedCount.count d (omega (arith, leb-true, le-leb)) w))
 
   pub streamCount-same : streamCount f len ≡ streamCount g len
   unfolding streamCount

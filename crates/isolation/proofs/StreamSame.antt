@@ -1,13 +1,11 @@
 -- Mapping and extraction, stage by stage, in the way of `Same`.
 use mathlib.Core.Path.{_≡_, refl, _∙_, ap}
-use mathlib.Core.List.{List, [], _∷_}
-use Prim.Native.Nat.{ℕ, zero, suc, _+_, _-_, _/_, _≤_, _<_}
+use Prim.Native.Nat.{ℕ, zero, suc, _+_, _/_, _≤_, _<_}
 use native.Mathlib.Omega.{arith}
 use native.Mathlib.Nat.{le-refl}
-use borrow.Author.Tests.{leb-true, ltb-true, le-leb, lt-ltb, le-ltb}
-use mathlib.Core.Logic.{⊎-elim}
+use borrow.Author.Tests.{leb-true, ltb-true, le-leb}
 use Rattle.outcome.specs.Outcome.{ok, _>>=_, _>>_}
-use Rattle.outcome.proofs.OutcomeLaws.{below-or, passed, came, came-by, ok-is}
+use Rattle.outcome.proofs.OutcomeLaws.{passed, came, came-by, ok-is}
 use Rattle.parse_buffer.specs.Bytes.{File}
 use Rattle.paged.specs.PageSize.{need}
 use Rattle.paged.specs.Pages.{through, directoryWord}
@@ -18,12 +16,12 @@ use Rattle.stream.specs.Stream.{sizeAt, pagesBefore, ownPage, ownPages, sized, 
 use Rattle.stream.specs.declared.Sized.{Sized}
 use Rattle.stream.specs.declared.Found.{Found}
 use Rattle.stream.proofs.FindLaws.{listed-at, found-at}
-use Rattle.slices.specs.Slices.{continues, slicesOf, total, placeOf}
-use Rattle.slices.specs.declared.SourceSlice.{SourceSlice}
-use Rattle.msf.specs.Msf.{Placed, placed, slicesIn, mapping, bytesThrough, bytesIn, readable, extraction}
+use Rattle.slices.specs.Slices.{continues, slicesOf}
+use Rattle.msf.specs.Msf.{lengthOf, Placed, placed, slicesIn, mapping, bytesThrough, bytesIn, readable, extraction}
 use Rattle.msf.specs.declared.limit.Limit.{Limit}
-use Rattle.container.proofs.Statements.{mapping-placed, large, held, is-total, is-place}
-use Rattle.isolation.specs.Listed.{Named, ListedCount, Listed, ListedBytes, Agree}
+use Rattle.container.proofs.Statements.{mapping-placed, large, held}
+use Rattle.isolation.specs.Listed.{ListedCount, Listed, ListedBytes, Agree}
+use Rattle.isolation.proofs.NamedExactly.{is-named}
 use Rattle.isolation.proofs.Same.{bind-same, then-same, check-same, lies-same, reached-same, held-same, count-same}
 
 -- ---- the slices of equal pages
@@ -38,21 +36,27 @@ slices-same size (suc n) h = rw (slices-same size n (λ j l. h j (omega arith)),
 
 -- ---- what a stage that passed says of the one before it
 module _ (f : File) (len k : ℕ) (limit : Limit) {x : Placed} where
-  placed-found : placed f len k limit ≡ ok x → found f len k ≡ ok (x .found)
+  pub placed-found : placed f len k limit ≡ ok x → found f len k ≡ ok (x .found)
   unfolding placed
   placed-found p =
       came-by _ _ p λ y e e₁.
       e ∙ ap (λ (z : Placed). ok (z .found)) (ok-is e₁)
 
-  readable-placed : readable f len k limit ≡ ok x → placed f len k limit ≡ ok x
+  pub placed-size : placed f len k limit ≡ ok x → x .size ≡ lengthOf limit (x .found .size)
+  unfolding placed
+  placed-size p = came-by _ _ p λ y _ e₁. rw (← ok-is e₁) refl
+
+  -- the pages that hold what is asked for are among the stream's own
+  pub few : placed f len k limit ≡ ok x → need (x .found .header .size) (x .size) ≤ ownPages (x .found)
+  few p =
+      need-least (x .found .header .size) (x .size) (large f len k limit p) (ownPages (x .found)) (held f len k limit p)
+
+  pub readable-placed : readable f len k limit ≡ ok x → placed f len k limit ≡ ok x
   unfolding readable
   readable-placed e =
       came-by _ _ e λ y p e₁.
       came _ _ e₁ λ _ _ e₂.
       p ∙ e₂
-
-  pub readable-found : readable f len k limit ≡ ok x → found f len k ≡ ok (x .found)
-  readable-found e = placed-found (readable-placed e)
 
 -- ---- mapping
 module _ (f g : File) (len k : ℕ) (agree : Agree (Listed f len k) f g) where
@@ -62,7 +66,7 @@ module _ (f g : File) (len k : ℕ) (agree : Agree (Listed f len k) f g) where
   module _ {h : Header} (d : reached f len ≡ ok h) (l : k < directoryWord f (h .size) 0) (t : 2 + k ≤ words h) where
     size-same : (j : ℕ) → j ≤ k → sizeAt f (h .size) j ≡ sizeAt g (h .size) j
     size-same j m =
-        held-same f g len counts d (1 + j) (omega arith) (λ i w. agree i (Listed.sizes d l m (le-leb (2 + j) (words h) (omega arith)) w))
+        held-same f g len counts d (1 + j) (omega arith) (λ i w. agree i (Listed.sizes {j = j} d (omega arith) (omega arith) (omega (arith, le-leb)) w))
 
     before-same : (j : ℕ) → j ≤ k → pagesBefore f (h .size) j ≡ pagesBefore g (h .size) j
     unfolding pagesBefore
@@ -99,7 +103,7 @@ module _ (f g : File) (len k : ℕ) (agree : Agree (Listed f len k) f g) where
     own-same : (j : ℕ) → j < ownPages x → x .first + j < words (x .header) → ownPage f x j ≡ ownPage g x j
     own-same j l t =
         held-same f g len counts (listed-at f len k s .reached) (x .first + j) t
-        (λ i w. agree i (Listed.pages s l (le-leb (x .first + j + 1) (words (x .header)) (omega arith)) w))
+        (λ i w. agree i (Listed.pages {j = j} s (omega arith) (omega (arith, le-leb)) w))
 
   found-same : found f len k ≡ found g len k
   unfolding found
@@ -130,16 +134,6 @@ module _ (f g : File) (len k : ℕ) (agree : Agree (Listed f len k) f g) where
   mapped-slices limit room m = slicesIn-same limit (mapping-placed f len k limit room m)
 
 -- ---- extraction
--- a byte of the slices, laid end to end, is one that they name
-named : (xs : List SourceSlice) (i : ℕ) → i < total xs → Named xs (placeOf xs i)
-unfolding total placeOf
-named [] i l = absurd (omega arith)
-named (s ∷ rest) i l =
-    ⊎-elim
-    (λ (m : i < s .size). rw (lt-ltb i (s .size) m) (Named.here {i = s .offset + i} {s = s} {rest = rest} (omega arith) (omega arith)))
-    (λ (m : s .size ≤ i). rw (le-ltb i (s .size) m) (Named.there (named rest (i - s .size) (omega arith))))
-    (below-or i (s .size))
-
 through-same : (f g : File) (p : ℕ) (a b : ℕ → ℕ) (n : ℕ) → ((i : ℕ) → i < n → f (through p a i) ≡ g (through p b i)) → bytesThrough f p a n ≡ bytesThrough g p b n
 unfolding bytesThrough
 through-same f g p a b zero h = refl
@@ -149,26 +143,21 @@ module _ (f g : File) (len k : ℕ) (limit : Limit) (agree : Agree (ListedBytes 
   maps : Agree (Listed f len k) f g
   maps i l = agree i (ListedBytes.mapping l)
 
-  -- the pages that hold what is asked for are among the stream's own
-  few : {x : Placed} → placed f len k limit ≡ ok x → need (x .found .header .size) (x .size) ≤ ownPages (x .found)
-  few {x} p =
-      need-least (x .found .header .size) (x .size) (large f len k limit p) (ownPages (x .found)) (held f len k limit p)
-
   pub readable-same : readable f len k limit ≡ readable g len k limit
   unfolding readable
   readable-same =
       bind-same (placed-same f g len k maps limit) λ x p.
-      then-same (lies-same _ _ _ _ (λ j l. let m = few p in page-same f g len k maps limit p j (omega arith))) λ _ _.
+      then-same (lies-same _ _ _ _ (λ j l. let m = few f len k limit p in page-same f g len k maps limit p j (omega arith))) λ _ _.
       refl
 
   pub bytesIn-same : {x : Placed} → readable f len k limit ≡ ok x → bytesIn f x ≡ bytesIn g x
   bytesIn-same {x} r =
       let p = readable-placed f len k limit r in
       through-same f g (x .found .header .size) (ownPage f (x .found)) (ownPage g (x .found)) (x .size) (λ i l.
-      let m = few p in
+      let m = few f len k limit p in
       let n = need-index (x .found .header .size) (x .size) (large f len k limit p) i l in
       rw (← page-same f g len k maps limit p (i / x .found .header .size) (omega arith))
-      (agree _ (ListedBytes.bytes r (rw (← is-place f len k limit p i l) (named (slicesIn f x) i (rw (is-total f len k limit p) l))))))
+      (agree _ (ListedBytes.bytes {x = x} (cc) (is-named f len k limit p i l))))
 
   pub extraction-same : (room : ℕ) → extraction f len k limit room ≡ extraction g len k limit room
   unfolding extraction

@@ -1,4 +1,5 @@
 pub mod Listed
+pub mod NamedExactly
 pub mod Isolation
 pub mod Boundary
 pub mod Corollaries

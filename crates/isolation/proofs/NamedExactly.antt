@@ -1,0 +1,71 @@
+-- What slices name. Laid end to end they have a byte for each place that they name, and a place for each byte; of a
+-- stream's slices, `container` says where its bytes stand.
+use mathlib.Core.Path.{_≡_, sym, _∙_}
+use mathlib.Core.Logic.{⊎-elim}
+use mathlib.Core.List.{List, [], _∷_}
+use Prim.Native.Nat.{ℕ, _+_, _-_, _≤_, _<_}
+use native.Mathlib.Omega.{arith}
+use borrow.Author.Tests.{lt-ltb, le-ltb}
+use Rattle.outcome.specs.Outcome.{ok}
+use Rattle.outcome.proofs.OutcomeLaws.{below-or}
+use Rattle.parse_buffer.specs.Bytes.{File}
+use Rattle.paged.specs.Pages.{through}
+use Rattle.stream.specs.Stream.{ownPage}
+use Rattle.slices.specs.Slices.{total, placeOf}
+use Rattle.slices.specs.declared.SourceSlice.{SourceSlice}
+use Rattle.msf.specs.Msf.{Placed, placed, slicesIn}
+use Rattle.msf.specs.declared.limit.Limit.{Limit}
+use Rattle.container.proofs.Statements.{is-total, is-place}
+use Rattle.isolation.specs.Listed.{Named}
+use Rattle.isolation.specs.NamedExactly.{StreamByte, NamedExactly}
+
+-- ---- slices laid end to end
+named : (xs : List SourceSlice) (i : ℕ) → i < total xs → Named xs (placeOf xs i)
+unfolding total placeOf
+named [] i l = absurd (omega arith)
+named (s ∷ rest) i l =
+    ⊎-elim
+    (λ (m : i < s .size). rw (lt-ltb i (s .size) m) (Named.here {i = s .offset + i} {s = s} {rest = rest} (omega arith) (omega arith)))
+    (λ (m : s .size ≤ i). rw (le-ltb i (s .size) m) (Named.there (named rest (i - s .size) (omega arith))))
+    (below-or i (s .size))
+
+record ByteOf (xs : List SourceSlice) (i : ℕ) : Type 0 where
+  index : ℕ
+  below : index < total xs
+  at : placeOf xs index ≡ i
+
+byte-of : (xs : List SourceSlice) (i : ℕ) → Named xs i → ByteOf xs i
+unfolding total placeOf
+byte-of (s ∷ rest) i (Named.here l m) =
+    let low : i - s .offset < s .size = omega arith in
+    record {
+      index = i - s .offset;
+      below = omega arith;
+      at = rw (lt-ltb (i - s .offset) (s .size) low) (omega arith);
+    }
+byte-of (s ∷ rest) i (Named.there n) =
+    let b = byte-of rest i n in
+    let back : s .size + b .index - s .size ≡ b .index = omega arith in
+    record {
+      index = s .size + b .index;
+      below = omega (arith, b .below);
+      at = rw (le-ltb (s .size + b .index) (s .size) (omega arith), back) (b .at);
+    }
+
+-- ---- a stream's slices
+module _ (f : File) (len k : ℕ) (limit : Limit) {x : Placed} (p : placed f len k limit ≡ ok x) where
+  pub is-named : (j : ℕ) → j < x .size → Named (slicesIn f x) (through (x .found .header .size) (ownPage f (x .found)) j)
+  is-named j l =
+      rw (← is-place f len k limit p j l) (named (slicesIn f x) j (rw (is-total f len k limit p) l))
+
+  pub stream-byte : (i : ℕ) → Named (slicesIn f x) i → StreamByte f x i
+  stream-byte i n =
+      let b = byte-of (slicesIn f x) i n in
+      let l : b .index < x .size = rw (is-total f len k limit p) at (b .below) in
+      record { index = b .index; below = l; at = sym (b .at) ∙ is-place f len k limit p (b .index) l }
+
+pub named-exactly : NamedExactly
+named-exactly =
+    record {
+      is = λ f len k limit p i. (stream-byte f len k limit p i, λ b. rw (b .at) (is-named f len k limit p (b .index) (b .below)));
+    }

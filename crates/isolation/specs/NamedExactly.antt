@@ -1,0 +1,22 @@
+-- Document 01: "for extraction also file bytes named by the cut slices". These are the stream's own bytes, no fewer and no
+-- more: byte j of stream k, for each j below the answered length, stands at page (j / P) * P + j mod P.
+use mathlib.Core.Path.{_≡_}
+use mathlib.Core.Logic.{_↔_}
+use Prim.Native.Nat.{ℕ, _<_}
+use Rattle.outcome.specs.Outcome.{ok}
+use Rattle.parse_buffer.specs.Bytes.{File}
+use Rattle.paged.specs.Pages.{through}
+use Rattle.stream.specs.Stream.{ownPage}
+use Rattle.msf.specs.Msf.{Placed, placed, slicesIn}
+use Rattle.msf.specs.declared.limit.Limit.{Limit}
+use Rattle.isolation.specs.Listed.{Named}
+
+-- i is the place of a byte of the stream that is before the cut
+pub record StreamByte (f : File) (x : Placed) (i : ℕ) : Type 0 where
+  pub index : ℕ
+  pub below : index < x .size
+  pub at : i ≡ through (x .found .header .size) (ownPage f (x .found)) index
+
+pub record NamedExactly : Type 0 where
+  pub is : (f : File) (len k : ℕ) (limit : Limit) {x : Placed} → placed f len k limit ≡ ok x → (i : ℕ) →
+      Named (slicesIn f x) i ↔ StreamByte f x i
