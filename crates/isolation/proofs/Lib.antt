@@ -1,6 +1,7 @@
 pub mod Same
 pub mod NamedExactly
 pub mod StreamSame
+pub mod Stages
 pub mod Isolation
 pub mod Boundary
 pub mod PageZero

@@ -1,7 +1,7 @@
 -- Stage by stage, each over the smallest list: two files that agree on the listed bytes give the same outcome. Each proof
 -- follows its stage's `do` block line by line: `then-same` and `bind-same` hand on that the line is reached, which is what a
 -- list asks. That a byte is listed is shown afresh each time (`omega`, `cc`), so a list that is too long passes here as it
--- should: `NamedExactly`, `Corollaries` and `NotTooMuch` refuse it.
+-- should: `NamedExactly`, `Stages`, `Corollaries` and `NotTooMuch` refuse it.
 use mathlib.Core.Path.{_≡_, refl, _∙_, ap}
 use mathlib.Core.Bool.{Bool, true, false, cond}
 use mathlib.Core.Logic.{⊎-elim}

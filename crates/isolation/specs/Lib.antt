@@ -1,5 +1,6 @@
 pub mod Listed
 pub mod NamedExactly
+pub mod Stages
 pub mod Isolation
 pub mod Boundary
 pub mod Corollaries
