@@ -1,5 +1,5 @@
--- Document 01: "for extraction also file bytes named by the cut slices". These are the stream's own bytes, no fewer and no
--- more: byte j of stream k, for each j below the answered length, stands at page (j / P) * P + j mod P.
+-- Document 01: "for extraction also file bytes named by the cut slices". These are the stream's own bytes, no fewer and
+-- no more: byte j of stream k, for each j below the answered length, stands at page (j / P) * P + j mod P.
 use mathlib.Core.Path.{_≡_}
 use mathlib.Core.Logic.{_↔_}
 use Prim.Native.Nat.{ℕ, _<_}

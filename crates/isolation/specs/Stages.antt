@@ -1,6 +1,6 @@
--- Document 01, "Bytes that stream k depends on": the location entries "in the header block, if the page size passes", the
--- rest "if that stage is reached", and stream bytes "if all lie in the file". A stage that refuses keeps off the list all
--- that later stages read, whatever the file, the stream and the limit.
+-- Document 01, "Bytes that stream k depends on": the location entries "in the header block, if the page size passes",
+-- the rest "if that stage is reached", and stream bytes "if all lie in the file". A stage that refuses keeps off the
+-- list all that later stages read, whatever the file, the stream and the limit.
 use mathlib.Core.Path.{_≡_}
 use mathlib.Core.Logic.{_⊎_}
 use Prim.Native.Nat.{ℕ, _*_, _<_}

@@ -62,8 +62,8 @@ startF = (0, 36) ∷ (40, 48) ∷ (52, 56) ∷ (768, 772) ∷ []
 abbrev pub OnlyIn : ℕ → Limit → List (ℕ × ℕ) → Type 0
 OnlyIn k limit ranges = (i : ℕ) → ListedBytes F 6144 k limit i → Within startF i ⊎ Within ranges i
 
--- streams 0 and 2, where n bytes are asked for: the count and the sizes up to its own; its entries; n bytes of its pages,
--- which are 20 and 21, and 10, 11 and 5
+-- streams 0 and 2, where n bytes are asked for: the count and the sizes up to its own; its entries; n bytes of its
+-- pages, which are 20 and 21, and 10, 11 and 5
 abbrev pub streamZero : ℕ → List (ℕ × ℕ)
 streamZero n = (1024, 1032) ∷ (1040, 1048) ∷ (5120, 5120 + n) ∷ []
 

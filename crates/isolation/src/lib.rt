@@ -1,4 +1,4 @@
-// Demand 3, streams do not leak into each other, as statements with their proofs. The one function, `proved`, does nothing.
+// Demand 3, streams do not leak into each other, as statements with their proofs. The one function does nothing.
 //
 // specs/Listed.antt: the bytes that stream k depends on. specs/Isolation.antt: two files of equal length that agree on
 // them give the same answers and stores. NamedExactly.antt, Stages.antt and Tight.antt there: what is not on the list.
