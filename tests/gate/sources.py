@@ -68,10 +68,18 @@ def functions():
     return [function for crate in crate_names() for function in functions_of(crate)]
 
 
+def promises(function, name):
+    """Whether a clause is a promise by name, or says that the result is a definition by name, under no premise."""
+    promise = re.compile(rf'ensures {{ λ \w+\. ⌜ (?:\w+ ≡ )?{re.escape(name)} [^→]*$')
+    return any(promise.match(clause) for clause in function.ensures)
+
+
 def statements_of(function):
-    """What a `proved` promises: the name after the last arrow of each clause."""
+    """The statements that a `proved` promises: each of no premise, and for all that its binders name."""
+    statement = re.compile(r'ensures { λ r\. ⌜ (?:\((?:\([^():]+ : [^():]+\) )+→ )?([^\s()→]+)[^→]* ⌝ }')
     for clause in function.ensures:
-        yield re.search(r'⌜(.*)⌝', clause).group(1).split('→')[-1].split()[0].strip('()')
+        found = statement.match(clause)
+        yield found.group(1) if found else clause.strip()
 
 
 # ---- must-fail edits
