@@ -1,7 +1,7 @@
 // What holds of the listing beyond its promises, as statements with their proofs.
 //
-// specs/Statements.antt: no second answer, numbers in decimal, the parts that make the whole. specs/Cases.antt: document
-// 01's listing of file F. The one function does nothing: it is there so that the check fails if a proof goes missing.
+// specs/Statements.antt: no second answer, numbers in decimal, the parts that make the whole. specs/Cases.antt:
+// document 01's listing of file F. The one function does nothing: with it the check fails if a proof goes missing.
 ghost use Prim.Native.Nat.{ℕ};
 ghost use Rattle.parse_buffer.specs.Bytes.{File};
 ghost use Rattle.listing_statements.specs.Statements.{Told, SingleValued, Decimal, InParts};

@@ -1,5 +1,5 @@
 // The bytes of the listing's lines, put one after another into a lent text, for the crates of the listing. Each
-// function starts at a place and returns the place after what it put; the caller guarantees room for the longest output.
+// function starts at a place and returns the place after what it put. The caller guarantees room for the longest.
 ghost use Prim.Native.Nat.{_+_, _≤_};
 ghost use lib.ListN.{length};
 ghost use Rattle.io.specs.Counts.{Counts};

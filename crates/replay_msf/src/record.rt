@@ -1,11 +1,15 @@
 // The header of a record: 48 bytes, its numbers little-endian (`tests/differential/README.md` has the format).
-use crate::ask::Question;
+use libc::STDIN_FILENO;
 use listing::Place;
 use msf::Limit;
 use msf::StreamNumber;
 use replay::Digest;
 use replay::half;
 use replay::word;
+use replay_questions::Question;
+ghost use Prim.Native.Nat.{_≤_};
+
+const HEADER: usize = 48;
 
 const LONGEST_FILE: usize = 131072;
 
@@ -22,51 +26,105 @@ pub struct Header {
     pub is_base: bool,
     // The file's length.
     pub length: usize,
-    // The question is asked with each value from the first to the last in the byte at a place.
-    pub sweep: bool,
-    pub at: usize,
-    pub first: u64,
-    pub last: u64,
+    pub sweep: Sweep,
     pub question: Question,
     // What the Rust answers.
     pub digest: Digest,
-    // Each byte that says yes or no is 0 or 1, that of a place is one of its three, and those that say nothing are 0.
-    pub well_formed: bool,
 }
 
-pub fn parse(h: &[u8; 48]) -> Header {
+// The question is asked with each value from the first to the last in the byte at a place, or once.
+pub struct Sweep {
+    pub on: bool,
+    pub at: usize,
+    pub first: u64,
+    pub last: u64,
+}
+
+pub enum Reading {
+    Header(Header),
+    // The list ends here.
+    Ended,
+    // The header is cut, or outside the limits.
+    Bad,
+}
+
+// The next header of the list.
+pub fn read() -> Reading {
+    let mut h = [0u8; HEADER];
+    let got = io::read_full(STDIN_FILENO, &mut h);
+    if got == 0 {
+        return Reading::Ended;
+    }
+    if got < HEADER || !well_formed(&h) {
+        return Reading::Bad;
+    }
+    judge(parse(&h))
+}
+
+// Each byte that says yes or no is 0 or 1, that of a place is one of its three, and those that say nothing are 0.
+fn well_formed(h: &[u8; 48]) -> bool {
+    h[4] < 2 && h[5] < 32 && h[6] < 2 && h[7] < 2 && h[22] < 3 && h[23] == 0
+}
+
+// A list of ours keeps to the limits, so one that does not is damaged.
+fn judge(h: Header) -> Reading {
+    let q = h.question;
+    let s = h.sweep;
+    if LONGEST_FILE < h.length || h.length <= s.at && s.on || s.last < s.first {
+        return Reading::Bad;
+    }
+    if MOST_ENTRIES < q.offsets || MOST_ENTRIES < q.sizes || MOST_BYTES < q.bytes {
+        return Reading::Bad;
+    }
+    Reading::Header(h)
+}
+
+fn parse(h: &[u8; 48]) -> Header {
     Header {
-        body: word(h[0], h[1], h[2], h[3]) as usize,
+        body: word_at(h, 0) as usize,
         is_base: h[4] == 0,
-        length: word(h[8], h[9], h[10], h[11]) as usize,
-        sweep: h[7] == 1,
-        at: word(h[12], h[13], h[14], h[15]) as usize,
-        first: byte(h[16]),
-        last: byte(h[17]),
+        length: word_at(h, 8) as usize,
+        sweep: parse_sweep(h),
         question: parse_question(h),
         digest: Digest {
-            a: word(h[40], h[41], h[42], h[43]),
-            b: word(h[44], h[45], h[46], h[47]),
+            a: word_at(h, 40),
+            b: word_at(h, 44),
         },
-        well_formed: h[4] < 2 && h[5] < 32 && h[6] < 2 && h[7] < 2 && h[22] < 3 && h[23] == 0,
+    }
+}
+
+fn parse_sweep(h: &[u8; 48]) -> Sweep {
+    Sweep {
+        on: h[7] == 1,
+        at: word_at(h, 12) as usize,
+        first: byte(h[16]),
+        last: byte(h[17]),
     }
 }
 
 fn parse_question(h: &[u8; 48]) -> Question {
-    let stream = StreamNumber(narrow(word(h[28], h[29], h[30], h[31])));
+    let asked = h[5];
+    let stream = StreamNumber(narrow(word_at(h, 28)));
     Question {
-        open: h[5] % 2 == 1,
-        count: h[5] / 2 % 2 == 1,
-        map: h[5] / 4 % 2 == 1,
-        extract: h[5] / 8 % 2 == 1,
-        list: h[5] / 16 % 2 == 1,
+        open: asked % 2 == 1,
+        count: asked / 2 % 2 == 1,
+        map: asked / 4 % 2 == 1,
+        extract: asked / 8 % 2 == 1,
+        list: asked / 16 % 2 == 1,
         stream,
         limit: parse_limit(h),
         offsets: half(h[18], h[19]),
         sizes: half(h[20], h[21]),
-        bytes: word(h[24], h[25], h[26], h[27]) as usize,
+        bytes: word_at(h, 24) as usize,
         from: parse_place(h[22], stream),
     }
+}
+
+fn parse_limit(h: &[u8; 48]) -> Limit {
+    if h[6] == 0 {
+        return Limit::None;
+    }
+    Limit::AtMost(wide(word_at(h, 32), word_at(h, 36)))
 }
 
 fn parse_place(place: u8, stream: StreamNumber) -> Place {
@@ -77,13 +135,10 @@ fn parse_place(place: u8, stream: StreamNumber) -> Place {
     }
 }
 
-fn parse_limit(h: &[u8; 48]) -> Limit {
-    if h[6] == 0 {
-        return Limit::None;
-    }
-    let low = word(h[32], h[33], h[34], h[35]);
-    let high = word(h[36], h[37], h[38], h[39]);
-    Limit::AtMost(wide(low, high))
+fn word_at(h: &[u8; 48], at: usize) -> u64
+    requires { ⌜ at ≤ 44 ⌝ }
+{
+    word(h[at], h[at + 1], h[at + 2], h[at + 3])
 }
 
 fn byte(b: u8) -> u64 {
@@ -99,24 +154,12 @@ fn wide(low: u64, high: u64) -> usize {
     (low % WORD + high % WORD * WORD) as usize
 }
 
-impl Header {
-    // A list of ours keeps to these, so one that does not is damaged.
-    pub fn within_limits(self) -> bool {
-        let q = self.question;
-        if LONGEST_FILE < self.length || self.last < self.first {
-            return false;
-        }
-        if self.sweep && self.length <= self.at {
-            return false;
-        }
-        self.well_formed
-            && q.offsets <= MOST_ENTRIES
-            && q.sizes <= MOST_ENTRIES
-            && q.bytes <= MOST_BYTES
-    }
-
-    // How many values a sweep asks at.
+impl Sweep {
+    // How many values it asks at.
     pub fn values(self) -> u64 {
+        if !self.on {
+            return 1;
+        }
         if self.last < self.first {
             return 0;
         }

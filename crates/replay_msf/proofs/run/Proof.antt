@@ -8,17 +8,14 @@ use Rattle.replay_msf.proofs.run.Statement.{statement}
 use Rattle.replay_msf.proofs.run.Tie as tie
 
 abbrev Inv-loop : tie.InvT-loop
-Inv-loop base₀ file₀ body₀ offsets₀ sizes₀ bytes₀ tally₀ turns₀ base file body offsets sizes bytes tally turns =
+Inv-loop base₀ file₀ body₀ bytes₀ tally₀ turns₀ base file body bytes tally turns =
     (length base ≡ length base₀)
     × (length file ≡ length file₀)
     × (length body ≡ length body₀)
-    × (length offsets ≡ length offsets₀)
-    × (length sizes ≡ length sizes₀)
     × (length bytes ≡ length bytes₀)
 
 abbrev μ-loop : tie.MeasureT-loop
-μ-loop base₀ file₀ body₀ offsets₀ sizes₀ bytes₀ tally₀ turns₀ base file body offsets sizes bytes tally turns =
-    turns
+μ-loop base₀ file₀ body₀ bytes₀ tally₀ turns₀ base file body bytes tally turns = turns
 
 new-requires : tie.Need-new-requires Inv-loop μ-loop
 new-requires c κs = tt
@@ -31,6 +28,9 @@ goes-on-requires c κs = tt
 
 replay-record-requires : tie.Need-replay-record-requires Inv-loop μ-loop
 replay-record-requires c κs = tt
+
+counted-requires : tie.Need-counted-requires Inv-loop μ-loop
+counted-requires c κs = tt
 
 sub-turns : tie.Need-sub-turns Inv-loop μ-loop
 sub-turns c = omega arith
@@ -53,32 +53,20 @@ same-length-3 c = search needs
 same-length-4 : tie.Need-same-length-4 Inv-loop μ-loop
 same-length-4 c = search needs
 
+returns : tie.Need-returns Inv-loop μ-loop
+returns c = tt
+
 same-length-5 : tie.Need-same-length-5 Inv-loop μ-loop
 same-length-5 c = search needs
 
 same-length-6 : tie.Need-same-length-6 Inv-loop μ-loop
 same-length-6 c = search needs
 
-returns : tie.Need-returns Inv-loop μ-loop
-returns c = tt
-
 same-length-7 : tie.Need-same-length-7 Inv-loop μ-loop
 same-length-7 c = search needs
 
 same-length-8 : tie.Need-same-length-8 Inv-loop μ-loop
 same-length-8 c = search needs
-
-same-length-9 : tie.Need-same-length-9 Inv-loop μ-loop
-same-length-9 c = search needs
-
-same-length-10 : tie.Need-same-length-10 Inv-loop μ-loop
-same-length-10 c = search needs
-
-same-length-11 : tie.Need-same-length-11 Inv-loop μ-loop
-same-length-11 c = search needs
-
-same-length-12 : tie.Need-same-length-12 Inv-loop μ-loop
-same-length-12 c = search needs
 
 returns-2 : tie.Need-returns-2 Inv-loop μ-loop
 returns-2 c = tt
@@ -93,6 +81,7 @@ run-spec =
     loop-holds
     goes-on-requires
     replay-record-requires
+    counted-requires
     sub-turns
     loop-less
     loop-again
@@ -100,13 +89,9 @@ run-spec =
     same-length-2
     same-length-3
     same-length-4
+    returns
     same-length-5
     same-length-6
-    returns
     same-length-7
     same-length-8
-    same-length-9
-    same-length-10
-    same-length-11
-    same-length-12
     returns-2)
