@@ -1,4 +1,4 @@
-// Binary annotations: the line program of an inlined function, as `S_INLINESITE` holds it (`src/symbol/annotations.rs`).
+// Binary annotations (`src/symbol/annotations.rs`): the line program of an inlined function (`S_INLINESITE`).
 //
 // annotation.rt: the thirteen annotations. step.rt: one step over bytes and a place. The numbers that they are made of
 // stand in crate `numbers` below, all steps into a lent store in crate `decode` above.

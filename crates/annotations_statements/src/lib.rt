@@ -1,7 +1,7 @@
 // What holds of binary annotations beyond the promises, as statements with their proofs.
 //
-// specs/Statements.antt: no second answer, the signed reading, numbers, steps and decoding all. specs/Cases.antt: the (P)
-// cases.
+// specs/Statements.antt: no second answer, the signed reading, numbers, steps and decoding all.
+// specs/Cases.antt: the (P) cases.
 ghost use Rattle.annotations_statements.specs.Cases.{Cases};
 ghost use Rattle.annotations_statements.specs.Statements.{Told, SingleValued, SignedReading, AtMostHalf};
 ghost use Rattle.annotations_statements.specs.Statements.{NumberExactly, Agreement, DecodeExactly};
