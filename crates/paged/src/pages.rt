@@ -10,7 +10,7 @@ ghost use lib.ListN.{length};
 ghost use Rattle.parse_buffer.specs.Bytes.{byteAt};
 ghost use Rattle.paged.specs.PageSize.{PageSize};
 ghost use Rattle.paged.specs.Pages.{through, location, directoryPage, directoryWord, pageOf, entryOf};
-ghost use Rattle.paged.specs.Checks.{pageFits, wanted, checkPages, liesInFile, checkedIn};
+ghost use Rattle.paged.specs.Checks.{pageFits, wanted, checkPages, liesInFile, checkedIn, whyChecked};
 
 // The location entries follow the header's 52 bytes.
 const FIRST_ENTRY: usize = 52;
@@ -25,6 +25,18 @@ pub enum Pages {
 pub enum Checked {
     Fine,
     Refused(Refusal),
+}
+
+impl Checked {
+    // Why a check did not pass.
+    pub fn why(self) -> Refusal
+        ensures { λ r. ⌜ r ≡ whyChecked self ⌝ }
+    {
+        match self {
+            Checked::Refused(why) => why,
+            Checked::Fine => Refusal::ShortData,
+        }
+    }
 }
 
 // The first n page numbers are checked in order, and the first that is out of range is refused.
@@ -48,7 +60,10 @@ pub fn check_pages(file: &[u8], size: usize, used: u32, pages: Pages, n: usize) 
 pub fn lies_in_file(file: &[u8], size: usize, pages: Pages, bytes: usize, n: usize) -> Checked
     requires { ⌜ PageSize size ⌝ }
     requires { ⌜ entryOf pages n ≤ 2 ^ 32 ⌝ }
-    ensures { λ r. ⌜ checkedIn r ≡ liesInFile (length (now (file .entry))) size (pageOf (byteAt (now (file .entry))) size pages) bytes n ⌝ }
+    ensures { λ r. ⌜
+        checkedIn r
+        ≡ liesInFile (length (now (file .entry))) size (pageOf (byteAt (now (file .entry))) size pages) bytes n
+        ⌝ }
 {
     let len = file.len();
     let mut i: usize = 0;

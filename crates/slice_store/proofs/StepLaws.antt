@@ -10,16 +10,17 @@ use lib.ListN.{length, set}
 use lib.Seq.{sets, length-sets}
 use Rattle.outcome.proofs.OutcomeLaws.{by-test}
 use Rattle.parse_buffer.specs.Bytes.{File}
-use Rattle.slices.specs.Inner.{streamPage, start, joins, extended}
+use Rattle.extent.specs.Extent.{pageIn}
+use Rattle.extent.specs.declared.limit.Limit.{Limit}
+use Rattle.slices.specs.Inner.{start, joins, extended}
 use Rattle.slices.proofs.SliceLaws.{pieces}
 use Rattle.slices.proofs.WalkLaws.{walked, walk-near, walk-few, walk-some, all-pieces, store-more}
 use Rattle.slices.specs.declared.SourceSlice.{SourceSlice}
 use Rattle.slices.specs.declared.Walk.{Walk}
-use Rattle.msf.specs.Inner.{Plans}
-use Rattle.msf.proofs.PlaceLaws.{written-slices}
-use Rattle.msf.specs.declared.limit.Limit.{Limit}
-use Rattle.msf.specs.declared.to_slices.Plan.{Plan}
-use Rattle.slice_store.specs.Inner.{cursorOf, Begins, Ready, onward, stepped}
+use Rattle.mapping.specs.Inner.{Plans}
+use Rattle.mapping.proofs.MappingLaws.{plan-fits, written-slices}
+use Rattle.mapping.specs.declared.Plan.{Plan}
+use Rattle.slice_store.specs.Inner.{cursorOf, Begins, Ready, walkOn, stepped}
 use Rattle.slice_store.specs.Promises.{MapsInto}
 use Rattle.slice_store.specs.declared.Cursor.{Cursor}
 use Rattle.slice_store.specs.declared.Begun.{Begun}
@@ -40,24 +41,24 @@ extended-some p w page n =
     by-test (λ (x : Walk). 0 < x .count) (joins (w .count) (w .last .0) page)
     (λ y. joined-some (w .count) (w .last .0) page y) (λ _. omega arith)
 
-module _ (f : File) (c : Cursor) {w : Walk} (is : w ≡ onward f c) where
+module _ (f : File) (c : Cursor) {w : Walk} (is : w ≡ walkOn f c) where
   pub step-some : 1 ≤ w .count
-  step-some = rw is (extended-some (c .size) (c .walk) _ _)
+  step-some = rw is (extended-some (c .extent .pagesize) (c .walk) _ _)
 
-  pub step-is : record { at = w .count - 1; slice = w .slice; next = record { size = c .size; first = c .first; bytes = c .bytes; pages = c .pages; page = c .page + 1; walk = w } } ≡ stepped f c
+  pub step-is : record { at = w .count - 1; slice = w .slice; next = record { extent = c .extent; page = c .page + 1; walk = w } } ≡ stepped f c
   unfolding stepped
   step-is = rw is
 
 -- ---- the loop: the cursor and the store after i pages
 module _ (f : File) (plan : Plan) where
   abbrev page : ℕ → ℕ
-  page = streamPage f (plan .size) (plan .first)
+  page = pageIn f (plan .extent)
 
   abbrev pub cursorAt : ℕ → Cursor
-  cursorAt i = cursorOf plan i (walked (plan .size) page (plan .length) i)
+  cursorAt i = cursorOf plan i (walked (plan .extent .pagesize) page (plan .extent .bytes) i)
 
   abbrev pub storeAt : List SourceSlice → ℕ → List SourceSlice
-  storeAt ys i = sets ys 0 (pieces (plan .size) page (plan .length) i)
+  storeAt ys i = sets ys 0 (pieces (plan .extent .pagesize) page (plan .extent .bytes) i)
 
   pub cursor-start : cursorOf plan 0 start ≡ cursorAt 0
   unfolding walked
@@ -77,25 +78,25 @@ module _ (f : File) (plan : Plan) where
 
     pub store-next : (ys : List SourceSlice) → set (storeAt ys i) (stepped f (cursorAt i) .at) (stepped f (cursorAt i) .slice) ≡ storeAt ys (suc i)
     unfolding stepped walked
-    store-next ys = store-more (plan .size) page (plan .length) i ys
+    store-next ys = store-more (plan .extent .pagesize) page (plan .extent .bytes) i ys
 
-  module _ {len k room : ℕ} {limit : Limit} (p : Plans f len k limit room plan) (i : ℕ) (less : i < plan .pages) where
+  module _ {len k room : ℕ} {limit : Limit} (p : Plans f len k limit room plan) (i : ℕ) (less : i < plan .extent .pages) where
     pub ready : Ready (cursorAt i)
-    ready = record { size = p .size; small = omega (arith, p .small); near = walk-near (plan .size) page (plan .length) i refl }
+    ready = record { extends = p .extends; less = less; near = walk-near (plan .extent .pagesize) page (plan .extent .bytes) i refl }
 
     pub place-inside : stepped f (cursorAt i) .at < room
     unfolding stepped walked
     place-inside =
-        let some = walk-some (plan .size) page (plan .length) i in
-        let few = walk-few (plan .size) page (plan .length) (p .size) (p .pages) (suc i) less in
-        omega (arith, p .fit)
+        let some = walk-some (plan .extent .pagesize) page (plan .extent .bytes) i in
+        let few = walk-few (plan .extent .pagesize) page (plan .extent .bytes) (p .extends .size) (p .extends .whole) (suc i) less in
+        omega (arith, plan-fits p .fit)
 
 -- ---- the end
 module _ {f : File} {len k : ℕ} {limit : Limit} {ys : List SourceSlice} {r : Begun} (b : Begins f len k limit (length ys) r) where
-  pub maps-into : MapsInto f len k limit ys (r .answer) (storeAt f (b .plan) ys (b .plan .pages))
+  pub maps-into : MapsInto f len k limit ys (r .answer) (storeAt f (b .plan) ys (b .plan .extent .pages))
   maps-into =
       let p = b .plans in
       record {
         answer = rw (b .answer) (p .answer);
-        after = rw (← all-pieces _ _ _ (p .size) (p .pages), p .slices) (written-slices f _ ys);
+        after = rw (← all-pieces _ _ _ (p .extends .size) (p .extends .whole), plan-fits p .is) (written-slices f _ ys);
       }

@@ -3,10 +3,11 @@
 //
 // All that is decided is decided by value: `begin` judges, and `step` says which entry a page more changes, and to what.
 // `map_into` alone touches the store.
-use msf::Limit;
-use msf::Mapping;
-use msf::StreamNumber;
-use msf::judge;
+use extent::Extent;
+use extent::Limit;
+use mapping::Mapping;
+use mapping::judge;
+use paged::StreamNumber;
 pub use slices::SourceSlice;
 use slices::Walk;
 use slices::extend;
@@ -16,12 +17,9 @@ ghost use Rattle.parse_buffer.specs.Bytes.{byteAt};
 ghost use Rattle.slice_store.specs.Inner.{Begins, Ready, stepped};
 ghost use Rattle.slice_store.specs.Promises.{MapsInto};
 
-// Where the writing stands: the pages whose first `bytes` bytes are asked for, and the walk over the first `page` of them.
+// Where the writing stands: what is asked for, and the walk over the first `page` of its pages.
 struct Cursor {
-    size: usize,
-    first: usize,
-    bytes: usize,
-    pages: usize,
+    extent: Extent,
     page: usize,
     walk: Walk,
 }
@@ -46,11 +44,14 @@ pub fn map_into(
     limit: Limit,
     store: &mut [SourceSlice],
 ) -> Mapping
-    ensures { λ r. ⌜ MapsInto (byteAt (now (file .entry))) (length (now (file .entry))) (stream .0) limit (now (store .entry)) r (now (store .exit)) ⌝ }
+    ensures { λ r. ⌜
+        MapsInto (byteAt (now (file .entry))) (length (now (file .entry))) (stream .0) limit
+        (now (store .entry)) r (now (store .exit))
+        ⌝ }
 {
     let begun = begin(file, stream, limit, store.len());
     let mut cursor = begun.start;
-    while cursor.page < cursor.pages {
+    while cursor.page < cursor.extent.pages {
         let stepped = step(file, cursor);
         store[stepped.at] = stepped.slice;
         cursor = stepped.next;
@@ -63,12 +64,10 @@ fn begin(file: &[u8], stream: StreamNumber, limit: Limit, room: usize) -> Begun
 {
     let plan = judge(file, stream, limit, room);
     let answer = plan.answer;
+    let extent = plan.extent;
     let walk = slices::begin();
     let start = Cursor {
-        size: plan.size,
-        first: plan.first,
-        bytes: plan.length,
-        pages: plan.pages,
+        extent,
         page: 0,
         walk,
     };
@@ -79,19 +78,11 @@ fn step(file: &[u8], c: Cursor) -> Stepped
     requires { ⌜ Ready c ⌝ }
     ensures { λ r. ⌜ r ≡ stepped (byteAt (now (file .entry))) c ⌝ }
 {
-    let walk = extend(file, c.size, c.first, c.bytes, c.page, c.walk);
+    let extent = c.extent;
+    let walk = extend(file, extent, c.page, c.walk);
+    let at = walk.count - 1;
     let slice = walk.slice;
-    let next = Cursor {
-        size: c.size,
-        first: c.first,
-        bytes: c.bytes,
-        pages: c.pages,
-        page: c.page + 1,
-        walk,
-    };
-    Stepped {
-        at: walk.count - 1,
-        slice,
-        next,
-    }
+    let page = c.page + 1;
+    let next = Cursor { extent, page, walk };
+    Stepped { at, slice, next }
 }

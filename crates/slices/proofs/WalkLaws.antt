@@ -221,12 +221,12 @@ module _ (p : ℕ) (page : ℕ → ℕ) (bytes : ℕ) where
     pub put-some : 0 < w′ .count
     put-some = rw next (some-slices p page bytes (stands-on p page bytes i))
 
-    pub write-more : {o₀ s₀ o t o′ t′ : List ℕ} → Writing (pieces p page bytes i) o₀ s₀ o t → (o′ ≡ set o (w′ .count - 1) (w′ .slice .offset)) × (t′ ≡ set t (w′ .count - 1) (w′ .slice .size)) → Writing (pieces p page bytes (i + 1)) o₀ s₀ o′ t′
-    write-more {o₀} {s₀} x g =
+    pub write-more : {o₀ s₀ o t o′ t′ : List ℕ} → Writing (pieces p page bytes i) o₀ s₀ o t → o′ ≡ set o (w′ .count - 1) (w′ .slice .offset) → t′ ≡ set t (w′ .count - 1) (w′ .slice .size) → Writing (pieces p page bytes (i + 1)) o₀ s₀ o′ t′
+    write-more {o₀} {s₀} x g h =
         let s = stands-on p page bytes i .puts in
         record {
-          offsets-are = g .0 ∙ rw (x .offsets-are, next, add-one) (s (λ (y : SourceSlice). y .offset) o₀);
-          sizes-are = g .1 ∙ rw (x .sizes-are, next, add-one) (s (λ (y : SourceSlice). y .size) s₀);
+          offsets-are = g ∙ rw (x .offsets-are, next, add-one) (s (λ (y : SourceSlice). y .offset) o₀);
+          sizes-are = h ∙ rw (x .sizes-are, next, add-one) (s (λ (y : SourceSlice). y .size) s₀);
         }
 
 -- ---- the same with one store of slices

@@ -1,22 +1,19 @@
 // From a stream's pages to slices: the Rust's `PageList` (`src/msf/page_list.rs`), with no list kept. The pages are
-// walked one at a time, each with as many of its bytes as the length still wants, so `push` and `truncate` are one, and
-// none can come after the other.
+// walked one at a time, each with as many of its bytes as the length still wants, so `push` and `truncate` are one step.
 //
-// The walk is taken twice: `count_slices` judges the room, `write_slices` writes two lent stores. Whoever lends a store of
-// another kind takes it by `begin` and `extend`.
+// The walk is done twice: `count_slices` counts for the room, `write_slices` writes two lent stores. `begin` and `extend`
+// serve a caller with a store of another kind.
+use extent::Extent;
 use paged::PageNumber;
 use paged::Pages;
 use paged::page_at;
 use paged::wanted_of;
 ghost use mathlib.Core.Path.{_≡_};
-ghost use Prim.Native.Nat.{_+_, _-_, _*_, _^_, _<_, _≤_};
+ghost use Prim.Native.Nat.{_-_, _<_, _≤_};
 ghost use lib.ListN.{length, set};
 ghost use Rattle.parse_buffer.specs.Bytes.{byteAt};
-ghost use Rattle.paged.specs.PageSize.{PageSize, need};
-ghost use Rattle.paged.specs.Pages.{directoryWord};
-ghost use Rattle.paged.specs.Checks.{wanted};
-ghost use Rattle.slices.specs.Slices.{slicesOf, cut};
-ghost use Rattle.slices.specs.Inner.{start, joins, extended, streamPage, Near, Writing};
+ghost use Rattle.extent.specs.Inner.{Extends};
+ghost use Rattle.slices.specs.Inner.{slicesThrough, start, joins, onward, Near, Writing};
 
 // An offset and a size in the file.
 pub struct SourceSlice {
@@ -31,43 +28,34 @@ pub struct Walk {
     pub slice: SourceSlice,
 }
 
-// How many slices the first `bytes` bytes of a stream's pages make; n is need(bytes).
-pub fn count_slices(file: &[u8], size: usize, first: usize, bytes: usize, n: usize) -> usize
-    requires { ⌜ PageSize size ⌝ }
-    requires { ⌜ first + n ≤ 2 ^ 32 ⌝ }
-    requires { ⌜ n ≡ need size bytes ⌝ }
-    ensures { λ r. ⌜ r ≡ length (cut bytes (slicesOf size (streamPage (byteAt (now (file .entry))) size first) n)) ⌝ }
+// How many slices these bytes make.
+pub fn count_slices(file: &[u8], x: Extent) -> usize
+    requires { ⌜ Extends x ⌝ }
+    ensures { λ r. ⌜ r ≡ length (slicesThrough (byteAt (now (file .entry))) x) ⌝ }
 {
     let mut walk = begin();
     let mut i: usize = 0;
-    while i < n {
-        walk = extend(file, size, first, bytes, i, walk);
+    while i < x.pages {
+        walk = extend(file, x, i, walk);
         i += 1;
     }
     walk.count
 }
 
-// The slices, from the front of the two stores; the caller has seen that they fit.
-pub fn write_slices(
-    file: &[u8],
-    size: usize,
-    first: usize,
-    bytes: usize,
-    n: usize,
-    offsets: &mut [u64],
-    sizes: &mut [u64],
-)
-    requires { ⌜ PageSize size ⌝ }
-    requires { ⌜ first + n ≤ 2 ^ 32 ⌝ }
-    requires { ⌜ n ≡ need size bytes ⌝ }
-    requires { ⌜ length (cut bytes (slicesOf size (streamPage (byteAt (now file)) size first) n)) ≤ length (now offsets) ⌝ }
-    requires { ⌜ length (cut bytes (slicesOf size (streamPage (byteAt (now file)) size first) n)) ≤ length (now sizes) ⌝ }
-    ensures { λ r. ⌜ Writing (cut bytes (slicesOf size (streamPage (byteAt (now (file .entry))) size first) n)) (now (offsets .entry)) (now (sizes .entry)) (now (offsets .exit)) (now (sizes .exit)) ⌝ }
+// The slices, from the front of the two stores. The caller guarantees room.
+pub fn write_slices(file: &[u8], x: Extent, offsets: &mut [u64], sizes: &mut [u64])
+    requires { ⌜ Extends x ⌝ }
+    requires { ⌜ length (slicesThrough (byteAt (now file)) x) ≤ length (now offsets) ⌝ }
+    requires { ⌜ length (slicesThrough (byteAt (now file)) x) ≤ length (now sizes) ⌝ }
+    ensures { λ r. ⌜
+        Writing (slicesThrough (byteAt (now (file .entry))) x)
+        (now (offsets .entry)) (now (sizes .entry)) (now (offsets .exit)) (now (sizes .exit))
+        ⌝ }
 {
     let mut walk = begin();
     let mut i: usize = 0;
-    while i < n {
-        walk = extend(file, size, first, bytes, i, walk);
+    while i < x.pages {
+        walk = extend(file, x, i, walk);
         put(offsets, sizes, walk);
         i += 1;
     }
@@ -85,28 +73,31 @@ pub fn begin() -> Walk
 }
 
 // The walk over page i too.
-pub fn extend(file: &[u8], size: usize, first: usize, bytes: usize, i: usize, walk: Walk) -> Walk
-    requires { ⌜ PageSize size ⌝ }
-    requires { ⌜ first + i < 2 ^ 32 ⌝ }
-    requires { ⌜ Near size i walk ⌝ }
-    ensures { λ r. ⌜ r ≡ extended size walk (streamPage (byteAt (now (file .entry))) size first i) (wanted size bytes i) ⌝ }
+pub fn extend(file: &[u8], x: Extent, i: usize, walk: Walk) -> Walk
+    requires { ⌜ Extends x ⌝ }
+    requires { ⌜ i < x .pages ⌝ }
+    requires { ⌜ Near (x .pagesize) i walk ⌝ }
+    ensures { λ r. ⌜ r ≡ onward (byteAt (now (file .entry))) x i walk ⌝ }
 {
-    let page = page_at(file, size, Pages::Stream(first), i);
-    let more = wanted_of(size, bytes, i);
+    let size = x.pagesize;
+    let page = page_at(file, size, Pages::Stream(x.first), i);
+    let more = wanted_of(size, x.bytes, i);
     let slice = walk.slice;
     if follows(walk.count, walk.last, page) {
+        let longer = slice.size + more;
         return Walk {
             count: walk.count,
             last: page,
             slice: SourceSlice {
                 offset: slice.offset,
-                size: slice.size + more,
+                size: longer,
             },
         };
     }
     let offset = page.0 as u64 * size as u64;
+    let count = walk.count + 1;
     Walk {
-        count: walk.count + 1,
+        count,
         last: page,
         slice: SourceSlice { offset, size: more },
     }
@@ -127,7 +118,8 @@ fn put(offsets: &mut [u64], sizes: &mut [u64], walk: Walk)
     requires { ⌜ 0 < walk .count ⌝ }
     requires { ⌜ walk .count ≤ length (now offsets) ⌝ }
     requires { ⌜ walk .count ≤ length (now sizes) ⌝ }
-    ensures { λ r. ⌜ (now (offsets .exit) ≡ set (now (offsets .entry)) (walk .count - 1) (walk .slice .offset)) × (now (sizes .exit) ≡ set (now (sizes .entry)) (walk .count - 1) (walk .slice .size)) ⌝ }
+    ensures { λ r. ⌜ now (offsets .exit) ≡ set (now (offsets .entry)) (walk .count - 1) (walk .slice .offset) ⌝ }
+    ensures { λ r. ⌜ now (sizes .exit) ≡ set (now (sizes .entry)) (walk .count - 1) (walk .slice .size) ⌝ }
 {
     let at = walk.count - 1;
     let slice = walk.slice;

@@ -8,7 +8,7 @@ use borrow.Author.Tests.{le-leb, lt-leb, le-ltb, lt-ltb, eq-eqb, ne-eqb}
 use lib.Dec.{eqb}
 use mir.Syntax.{w64}
 use mir.Val.{Fits}
-use Rattle.outcome.specs.Outcome.{ok, refused, _>>=_, _>>_, require, Unchanged}
+use Rattle.outcome.specs.Outcome.{ok, refused, _>>=_, _>>_, require}
 use Rattle.outcome.proofs.OutcomeLaws.{by-test, came, came-by, ok-is}
 use Rattle.parse_buffer.specs.Bytes.{File}
 use Rattle.paged.specs.PageSize.{PageSize, need}
@@ -17,18 +17,19 @@ use Rattle.paged.proofs.SizeLaws.{need-least}
 use Rattle.paged.specs.declared.refusal.StreamNumber.{StreamNumber}
 use Rattle.paged.specs.declared.refusal.Refusal.{Refusal}
 use Rattle.paged.specs.declared.refusal.Refusal.the-variants.{StreamNotFound, ShortData}
-use Rattle.header.specs.Promises.{headedIn}
+use Rattle.header.specs.Inner.{headedIn, whyHeaded}
+use Rattle.header.specs.Header as header
 use Rattle.header.specs.declared.Header.{Header}
 use Rattle.header.specs.declared.Headed.{Headed}
 use Rattle.header.specs.declared.Headed.the-variants as headed
 use Rattle.directory.specs.Directory.{reached}
-use Rattle.directory.specs.Promises.{Reaching}
-use Rattle.directory.proofs.DirectoryLaws.{reached-size}
-use Rattle.stream.specs.Stream.{absent, pagesOf, pagesBefore, sized}
-use Rattle.stream.specs.Promises.{presentIn, Before, Sizing}
-use Rattle.stream.specs.declared.Sized.{Sized}
+use Rattle.directory.specs.Inner.{Reaching}
+use Rattle.directory.proofs.DirectoryLaws.{reached-at}
+use Rattle.stream.specs.Stream.{absent, pagesOf, pagesBefore, present}
+use Rattle.stream.specs.Inner.{presenceIn, Before, Sizing}
 use Rattle.stream.specs.declared.Present.{Present}
-use Rattle.stream.specs.declared.Present.the-variants as present
+use Rattle.stream.specs.declared.Presence.{Presence}
+use Rattle.stream.specs.declared.Presence.the-variants as presence
 
 -- ---- `pages_of`: an absent stream has none, and a stream of 32 bits at most 2^24
 module _ (p size : ℕ) where
@@ -76,61 +77,62 @@ pub ruleset before-cases = (before-none, before-fits, before-more, before-all)
 
 -- ---- the stream's size
 module _ {f : File} {len : ℕ} {r : Headed} (p : Reaching f len r) (stream : StreamNumber) where
-  pub size-refused : {why : Refusal} (x : Present) → r ≡ headed.Refused why → Unchanged (headedIn r) (presentIn x) → Sizing f len (stream .0) x
-  unfolding sized headedIn _>>=_
-  size-refused x e u =
+  pub size-refused : {why v : Refusal} → r ≡ headed.Refused why → v ≡ whyHeaded r → Sizing f len (stream .0) (presence.Refused v)
+  unfolding present headedIn presenceIn _>>=_
+  size-refused e u =
       let k : reached f len ≡ refused _ = sym (p .answer) ∙ ap headedIn e in
-      record { answer = u .is _ (ap headedIn e) ∙ rw k }
+      record { answer = rw (k, u, e) }
 
   module _ {h : Header} (e : r ≡ headed.Container h) where
     reached-is : reached f len ≡ ok h
     unfolding headedIn
     reached-is = sym (p .answer) ∙ ap headedIn e
 
-    pub size-size : PageSize (h .size)
-    size-size = reached-size f len reached-is
+    pub size-size : PageSize (h .pagesize)
+    size-size = reached-at f len reached-is .size
 
-    pub no-count : h .directory / 4 < 1 → Sizing f len (stream .0) (present.Refused ShortData)
-    unfolding sized presentIn require _>>=_ _>>_
-    no-count l = record { answer = rw (reached-is, lt-leb 1 (h .directory / 4) l) }
+    module _ {words : ℕ} (w : words ≡ header.words h) where
+      pub no-count : words < 1 → Sizing f len (stream .0) (presence.Refused ShortData)
+      unfolding present presenceIn require _>>=_ _>>_
+      no-count l = record { answer = rw (reached-is, ← w, lt-leb 1 (words) l) }
 
-    module _ (l₁ : 1 ≤ h .directory / 4) {count : ℕ} (c : count ≡ directoryWord f (h .size) 0) where
-      pub not-below : count ≤ stream .0 → Sizing f len (stream .0) (present.Refused (StreamNotFound stream))
-      unfolding sized presentIn require _>>=_ _>>_
-      not-below l = record { answer = rw (reached-is, le-leb 1 (h .directory / 4) l₁, ← c, le-ltb (stream .0) count l) }
+      module _ (l₁ : 1 ≤ words) {count : ℕ} (c : count ≡ directoryWord f (h .pagesize) 0) where
+        pub not-below : count ≤ stream .0 → Sizing f len (stream .0) (presence.Refused (StreamNotFound stream))
+        unfolding present presenceIn require _>>=_ _>>_
+        not-below l = record { answer = rw (reached-is, ← w, le-leb 1 (words) l₁, ← c, le-ltb (stream .0) count l) }
 
-      module _ (l₂ : stream .0 < count) where
-        pub no-size : h .directory / 4 ≤ 1 + stream .0 → Sizing f len (stream .0) (present.Refused ShortData)
-        unfolding sized presentIn require _>>=_ _>>_
-        no-size l =
-            record {
-              answer = rw (reached-is, le-leb 1 (h .directory / 4) l₁, ← c, lt-ltb (stream .0) count l₂, lt-leb (2 + stream .0) (h .directory / 4) (omega arith));
-            }
-
-        module _ (l₃ : 1 + stream .0 < h .directory / 4) {bytes : ℕ} (b : bytes ≡ directoryWord f (h .size) (1 + stream .0)) where
-          pub is-absent : bytes ≡ absent → Sizing f len (stream .0) (present.Refused (StreamNotFound stream))
-          unfolding sized presentIn require _>>=_ _>>_
-          is-absent a =
+        module _ (l₂ : stream .0 < count) where
+          pub no-size : words ≤ 1 + stream .0 → Sizing f len (stream .0) (presence.Refused ShortData)
+          unfolding present presenceIn require _>>=_ _>>_
+          no-size l =
               record {
-                answer = rw (reached-is, le-leb 1 (h .directory / 4) l₁, ← c, lt-ltb (stream .0) count l₂, le-leb (2 + stream .0) (h .directory / 4) (omega arith), ← b, eq-eqb bytes absent a);
+                answer = rw (reached-is, ← w, le-leb 1 (words) l₁, ← c, lt-ltb (stream .0) count l₂, lt-leb (2 + stream .0) (words) (omega arith));
               }
 
-          pub is-present : (bytes ≡ absent → ⊥) → Sizing f len (stream .0) (present.Sized (record { header = h; count = count; size = bytes }))
-          unfolding sized presentIn require _>>=_ _>>_
-          is-present a =
-              record {
-                answer = rw (reached-is, le-leb 1 (h .directory / 4) l₁, ← c, lt-ltb (stream .0) count l₂, le-leb (2 + stream .0) (h .directory / 4) (omega arith), ← b, ne-eqb bytes absent a);
-              }
+          module _ (l₃ : 1 + stream .0 < words) {bytes : ℕ} (b : bytes ≡ directoryWord f (h .pagesize) (1 + stream .0)) where
+            pub is-absent : bytes ≡ absent → Sizing f len (stream .0) (presence.Refused (StreamNotFound stream))
+            unfolding present presenceIn require _>>=_ _>>_
+            is-absent a =
+                record {
+                  answer = rw (reached-is, ← w, le-leb 1 (words) l₁, ← c, lt-ltb (stream .0) count l₂, le-leb (2 + stream .0) (words) (omega arith), ← b, eq-eqb bytes absent a);
+                }
+
+            pub is-present : (bytes ≡ absent → ⊥) → Sizing f len (stream .0) (presence.Present (record { header = h; count = count; size = bytes }))
+            unfolding present presenceIn require _>>=_ _>>_
+            is-present a =
+                record {
+                  answer = rw (reached-is, ← w, le-leb 1 (words) l₁, ← c, lt-ltb (stream .0) count l₂, le-leb (2 + stream .0) (words) (omega arith), ← b, ne-eqb bytes absent a);
+                }
 
 pub ruleset size-cases = (size-refused, no-count, not-below, no-size, is-absent, is-present)
 
 -- ---- the header of a stream's size is the one reached
-pub sized-reached : (f : File) (len k : ℕ) {x : Sized} → sized f len k ≡ ok x → reached f len ≡ ok (x .header)
-unfolding sized
-sized-reached f len k e =
+pub present-reached : (f : File) (len k : ℕ) {x : Present} → present f len k ≡ ok x → reached f len ≡ ok (x .header)
+unfolding present
+present-reached f len k e =
     came-by _ _ e λ h d e₁.
     came _ _ e₁ λ _ _ e₂.
     came _ _ e₂ λ _ _ e₃.
     came _ _ e₃ λ _ _ e₄.
     came _ _ e₄ λ _ _ e₅.
-    d ∙ ap (λ (y : Sized). ok (y .header)) (ok-is e₅)
+    d ∙ ap (λ (y : Present). ok (y .header)) (ok-is e₅)

@@ -1,5 +1,4 @@
-// Finding a stream in the directory, step 7: its size, and where its own page numbers stand. Each part of the step is a
-// function that hands its refusal up.
+// Finding a stream in the directory, step 7: its size, and where its own page numbers stand.
 use directory::reach;
 use header::Headed;
 use header::Header;
@@ -14,13 +13,10 @@ use paged::pages_needed_to_store;
 ghost use mathlib.Core.Path.{_≡_};
 ghost use Prim.Native.Nat.{_^_, _<_};
 ghost use lib.ListN.{length};
-ghost use Rattle.outcome.specs.Outcome.{Unchanged};
 ghost use Rattle.parse_buffer.specs.Bytes.{byteAt};
 ghost use Rattle.paged.specs.PageSize.{PageSize};
-ghost use Rattle.paged.specs.Checks.{checkedIn};
-ghost use Rattle.header.specs.Promises.{headedIn};
 ghost use Rattle.stream.specs.Stream.{pagesOf};
-ghost use Rattle.stream.specs.Promises.{presentIn, soughtIn, Before, Sizing, Skipped, Finding};
+ghost use Rattle.stream.specs.Inner.{whyPresence, whySought, Before, Sizing, Skipped, Finding};
 
 // The size of a stream that is not there.
 pub const ABSENT: u32 = 0xffffffff;
@@ -38,15 +34,39 @@ pub enum Sought {
 }
 
 // A stream that is present: the stream count, and its own size.
-pub struct Sized {
+pub struct Present {
     pub header: Header,
     pub count: u32,
     pub size: u32,
 }
 
-pub enum Present {
-    Sized(Sized),
+pub enum Presence {
+    Present(Present),
     Refused(Refusal),
+}
+
+impl Sought {
+    // Why the stream was not found.
+    pub fn why(self) -> Refusal
+        ensures { λ r. ⌜ r ≡ whySought self ⌝ }
+    {
+        match self {
+            Sought::Refused(why) => why,
+            Sought::Found(_) => Refusal::ShortData,
+        }
+    }
+}
+
+impl Presence {
+    // Why the stream's size is not known.
+    fn why(self) -> Refusal
+        ensures { λ r. ⌜ r ≡ whyPresence self ⌝ }
+    {
+        match self {
+            Presence::Refused(why) => why,
+            Presence::Present(_) => Refusal::ShortData,
+        }
+    }
 }
 
 // Steps 1 to 7. All of the stream's page numbers are checked, each first 7, then 4.
@@ -54,28 +74,27 @@ pub fn find(file: &[u8], stream: StreamNumber) -> Sought
     ensures { λ r. ⌜ Finding (byteAt (now (file .entry))) (length (now (file .entry))) (stream .0) r ⌝ }
 {
     let present = size_of(file, stream);
-    let Present::Sized(x) = present else {
-        return up_present(present);
+    let Presence::Present(x) = present else {
+        return Sought::Refused(present.why());
     };
     let h = x.header;
-    let words = h.directory as usize / 4;
     let sizes = 1 + x.count as usize;
-    if words < sizes {
+    if h.words() < sizes {
         return Sought::Refused(Refusal::ShortData);
     }
-    let before = pages_before(file, h.size as usize, stream.0 as usize);
+    let before = pages_before(file, h.pagesize as usize, stream.0 as usize);
     find_after(file, stream, x, before)
 }
 
 // The rest of step 7 for a stream that is present, in a directory that holds all sizes, given how many page numbers the
 // streams before it have: these are skipped, and its own are checked.
-pub fn find_after(file: &[u8], stream: StreamNumber, x: Sized, before: usize) -> Sought
+pub fn find_after(file: &[u8], stream: StreamNumber, x: Present, before: usize) -> Sought
     requires { ⌜ Skipped (byteAt (now file)) (length (now file)) (stream .0) x before ⌝ }
     ensures { λ r. ⌜ Finding (byteAt (now (file .entry))) (length (now (file .entry))) (stream .0) r ⌝ }
 {
     let h = x.header;
-    let size = h.size as usize;
-    let words = h.directory as usize / 4;
+    let size = h.pagesize as usize;
+    let words = h.words();
     let first = 1 + x.count as usize + before;
     if words < first {
         return Sought::Refused(Refusal::ShortData);
@@ -85,7 +104,7 @@ pub fn find_after(file: &[u8], stream: StreamNumber, x: Sized, before: usize) ->
     let entries = least(n, left);
     let checked = check_pages(file, size, h.used, Pages::Stream(first), entries);
     let Checked::Fine = checked else {
-        return up_checked(checked);
+        return Sought::Refused(checked.why());
     };
     if left < n {
         return Sought::Refused(Refusal::ShortData);
@@ -98,32 +117,32 @@ pub fn find_after(file: &[u8], stream: StreamNumber, x: Sized, before: usize) ->
 }
 
 // The count is read, and the sizes 0 to the stream's own.
-fn size_of(file: &[u8], stream: StreamNumber) -> Present
+fn size_of(file: &[u8], stream: StreamNumber) -> Presence
     ensures { λ r. ⌜ Sizing (byteAt (now (file .entry))) (length (now (file .entry))) (stream .0) r ⌝ }
 {
     let reached = reach(file);
     let Headed::Container(h) = reached else {
-        return up_reached(reached);
+        return Presence::Refused(reached.why());
     };
-    let size = h.size as usize;
-    let words = h.directory as usize / 4;
+    let size = h.pagesize as usize;
+    let words = h.words();
     if words < 1 {
-        return Present::Refused(Refusal::ShortData);
+        return Presence::Refused(Refusal::ShortData);
     }
     let count = directory_word(file, size, 0);
     let k = stream.0;
     if count <= k {
-        return Present::Refused(Refusal::StreamNotFound(stream));
+        return Presence::Refused(Refusal::StreamNotFound(stream));
     }
     let own = 1 + k as usize;
     if words <= own {
-        return Present::Refused(Refusal::ShortData);
+        return Presence::Refused(Refusal::ShortData);
     }
     let bytes = directory_word(file, size, own);
     if bytes == ABSENT {
-        return Present::Refused(Refusal::StreamNotFound(stream));
+        return Presence::Refused(Refusal::StreamNotFound(stream));
     }
-    Present::Sized(Sized {
+    Presence::Present(Present {
         header: h,
         count,
         size: bytes,
@@ -155,32 +174,4 @@ pub fn pages_of(size: usize, bytes: u32) -> usize
         return 0;
     }
     pages_needed_to_store(size, bytes as usize)
-}
-
-// Refusals handed up unchanged.
-fn up_checked(c: Checked) -> Sought
-    ensures { λ r. ⌜ Unchanged (checkedIn c) (soughtIn r) ⌝ }
-{
-    match c {
-        Checked::Refused(why) => Sought::Refused(why),
-        Checked::Fine => Sought::Refused(Refusal::ShortData),
-    }
-}
-
-fn up_present(p: Present) -> Sought
-    ensures { λ r. ⌜ Unchanged (presentIn p) (soughtIn r) ⌝ }
-{
-    match p {
-        Present::Refused(why) => Sought::Refused(why),
-        Present::Sized(_) => Sought::Refused(Refusal::ShortData),
-    }
-}
-
-fn up_reached(r: Headed) -> Present
-    ensures { λ p. ⌜ Unchanged (headedIn r) (presentIn p) ⌝ }
-{
-    match r {
-        Headed::Refused(why) => Present::Refused(why),
-        Headed::Container(_) => Present::Refused(Refusal::ShortData),
-    }
 }

@@ -58,12 +58,12 @@ use Rattle.paged.proofs.refusal.StreamNumber.Laws as N′
 use Rattle.slices.specs.declared.SourceSlice.{SourceSlice}
 use Rattle.slices.proofs.SourceSlice as T
 use Rattle.slices.proofs.SourceSlice.Laws as T′
-use Rattle.msf.specs.declared.limit.Limit.{Limit}
-use Rattle.msf.specs.declared.to_slices.Mapping.{Mapping}
-use Rattle.msf.proofs.limit.Limit as L
-use Rattle.msf.proofs.limit.Limit.Laws as L′
-use Rattle.msf.proofs.to_slices.Mapping as E
-use Rattle.msf.proofs.to_slices.Mapping.Laws as E′
+use Rattle.extent.specs.declared.limit.Limit.{Limit}
+use Rattle.extent.proofs.limit.Limit as L
+use Rattle.extent.proofs.limit.Limit.Laws as L′
+use Rattle.mapping.specs.declared.Mapping.{Mapping}
+use Rattle.mapping.proofs.Mapping as E
+use Rattle.mapping.proofs.Mapping.Laws as E′
 use Rattle.slice_store.specs.Inner.{Begins, stepped}
 use Rattle.slice_store.specs.Promises.{MapsInto}
 use Rattle.slice_store.specs.declared.Begun.{Begun}
@@ -220,7 +220,7 @@ module _ {M : Type 1} (𝓤 : URA M) (H : Heap 𝓤) (A : Atoms 𝓤) (W : Given
     -- ---- once it has answered
     module _ (r : Begun) (begun : Beginning r) (answered : Made (r .answer)) where
       abbrev pages : ℕ
-      pages = begun .plan .pages
+      pages = begun .plan .extent .pages
 
       -- after i pages: the cursor, and the store
       abbrev cur : ℕ → Cursor
@@ -297,7 +297,7 @@ module _ {M : Type 1} (𝓤 : URA M) (H : Heap 𝓤) (A : Atoms 𝓤) (W : Given
         more : (i : Upto) → i .0 < pages → Sq W (At i) (runs C Λ En mir.turn-1 (anyQ (Turned i)))
         unfolding afterTurn
         more i less =
-            assigns ! (bin ! (load ! (from ! (fld ! refl (stop !))) (look-in ! 16 (sub ! 4 refl (whole !)))) (load ! (from ! (fld ! refl (stop !))) (look-in ! 16 (sub ! 3 refl (whole !)))) tt) (from ! (stop !)) (init ! 10 refl (tt, tt)) $
+            assigns ! (bin ! (load ! (from ! (fld ! refl (stop !))) (look-in ! 16 (sub ! 1 refl (whole !)))) (load ! (from ! (fld ! refl (fld ! refl (stop !)))) (look-in ! 16 (sub ! 3 refl (sub ! 0 refl (whole !))))) tt) (from ! (stop !)) (init ! 10 refl (tt, tt)) $
             rewrite ! 10 (λ (t : Bool). ‵ (fat fullShare tyBool l₉ 0 (vbool t))) (lt-ltb _ _ less) refl $ stays ! (load ! (from ! (stop !)) (look ! 10 refl)) $
             -- the call: what the file owns and its token go, and come back with the result
             move ! (4 ∷ 5 ∷ []) $ use2 W (raw (Step 𝓤 H A mem run .pre (to-step (i .0))) ⊛ ‵ Bytes) (gives-step (i .0) less (i .1 .1)) $ split ! $
@@ -346,7 +346,7 @@ module _ {M : Type 1} (𝓤 : URA M) (H : Heap 𝓤) (A : Atoms 𝓤) (W : Given
         ends : (i : Upto) → i .0 ≡ pages → Sq W (At i) (runs C Λ En mir.turn-1 (anyQ (Turned i)))
         unfolding afterTurn
         ends i e =
-            assigns ! (bin ! (load ! (from ! (fld ! refl (stop !))) (look-in ! 16 (sub ! 4 refl (whole !)))) (load ! (from ! (fld ! refl (stop !))) (look-in ! 16 (sub ! 3 refl (whole !)))) tt) (from ! (stop !)) (init ! 10 refl (tt, tt)) $
+            assigns ! (bin ! (load ! (from ! (fld ! refl (stop !))) (look-in ! 16 (sub ! 1 refl (whole !)))) (load ! (from ! (fld ! refl (fld ! refl (stop !)))) (look-in ! 16 (sub ! 3 refl (sub ! 0 refl (whole !))))) tt) (from ! (stop !)) (init ! 10 refl (tt, tt)) $
             rewrite ! 10 (λ (t : Bool). ‵ (fat fullShare tyBool l₉ 0 (vbool t))) (le-ltb (i .0) pages (omega arith)) refl $ leaves-loop ! (load ! (from ! (stop !)) (look ! 10 refl)) $ exec ! C Λ En mir.t-5 (atRet En Post) $
             assigns ! (of-opd ! (load ! (from ! (fld ! refl (stop !))) (look-in ! 18 (sub ! 0 refl (whole !))))) (from ! (stop !)) (init ! 28 refl (EL.lawful E.the-type E′.the-laws 𝓤 H A W tt .typed (r .answer) _ answered .0)) $
             closes-slice ! tt R ys (zs (i .0)) (store-length f (begun .plan) ys (i .0)) b o $

@@ -8,14 +8,14 @@ use Rattle.slice_store.proofs.step.Tie as tie
 extend-requires : tie.Need-extend-requires
 extend-requires c κs = search needs
 
-add-t6 : tie.Need-add-t6
-add-t6 c = search needs
+sub-at : tie.Need-sub-at
+sub-at c = search step-some
 
-sub-t6 : tie.Need-sub-t6
-sub-t6 c = search step-some
+add-page : tie.Need-add-page
+add-page c = search needs
 
 returns : tie.Need-returns
 returns c = search step-is
 
 pub step-spec : {M : Type 1} → statement M
-step-spec = tie.close (tie.spec extend-requires add-t6 sub-t6 returns)
+step-spec = tie.close (tie.spec extend-requires sub-at add-page returns)

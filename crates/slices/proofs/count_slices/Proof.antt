@@ -5,16 +5,16 @@ use Prim.Native.Nat.{_≤_, _-_}
 use native.Mathlib.Omega.{arith}
 use borrow.Author.Needs.{needs}
 use Rattle.parse_buffer.specs.Bytes.{byteAt}
-use Rattle.slices.specs.Inner.{streamPage}
+use Rattle.extent.specs.Extent.{pageIn}
 use Rattle.slices.proofs.WalkLaws.{walked, walk-cases}
 use Rattle.slices.proofs.count_slices.Statement.{statement}
 use Rattle.slices.proofs.count_slices.Tie as tie
 
 abbrev Inv-loop : tie.InvT-loop
-Inv-loop file size first bytes n walk₀ i₀ walk i = (i ≤ n) × (walk ≡ walked size (streamPage (byteAt file) size first) bytes i)
+Inv-loop file x walk₀ i₀ walk i = (i ≤ x .pages) × (walk ≡ walked (x .pagesize) (pageIn (byteAt file) x) (x .bytes) i)
 
 abbrev μ-loop : tie.MeasureT-loop
-μ-loop file size first bytes n walk₀ i₀ walk i = n - i
+μ-loop file x walk₀ i₀ walk i = x .pages - i
 
 begin-requires : tie.Need-begin-requires Inv-loop μ-loop
 begin-requires c κs = search needs
@@ -23,7 +23,7 @@ loop-holds : tie.Need-loop-holds Inv-loop μ-loop
 loop-holds c = (omega arith, search walk-cases)
 
 extend-requires : tie.Need-extend-requires Inv-loop μ-loop
-extend-requires c κs = (search needs, (omega arith, search walk-cases))
+extend-requires c κs = (search needs, (search needs, search walk-cases))
 
 add-i : tie.Need-add-i Inv-loop μ-loop
 add-i c = search needs

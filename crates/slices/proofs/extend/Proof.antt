@@ -16,8 +16,8 @@ wanted-of-requires c κs = search needs
 follows-requires : tie.Need-follows-requires
 follows-requires c κs = search needs
 
-add-t13 : tie.Need-add-t13
-add-t13 c = search needs
+add-longer : tie.Need-add-longer
+add-longer c = search needs
 
 returns : tie.Need-returns
 returns c = search longer
@@ -26,10 +26,10 @@ cast-offset : tie.Need-cast-offset
 cast-offset c = search needs
 
 mul-offset : tie.Need-mul-offset
-mul-offset c = omega (arith, at-most-largest (c .before .before .before .before .before .page-at .result .0) (c .before .before .before .before .before .before .before .pre .0))
+mul-offset c = omega (arith, at-most-largest (c .before .before .before .before .before .page-at .result .0) (c .before .before .before .before .before .before .before .pre .0 .size))
 
-add-t17 : tie.Need-add-t17
-add-t17 c = search needs
+add-count : tie.Need-add-count
+add-count c = search needs
 
 returns-2 : tie.Need-returns-2
 returns-2 c = search opened
@@ -41,9 +41,9 @@ extend-spec =
     page-at-requires
     wanted-of-requires
     follows-requires
-    add-t13
+    add-longer
     returns
     cast-offset
     mul-offset
-    add-t17
+    add-count
     returns-2)

@@ -6,17 +6,17 @@ use native.Mathlib.Omega.{arith}
 use borrow.Author.Needs.{needs}
 use Rattle.parse_buffer.specs.Bytes.{byteAt}
 use Rattle.slices.specs.Inner.{Writing}
-use Rattle.slices.specs.Inner.{streamPage}
+use Rattle.extent.specs.Extent.{pageIn}
 use Rattle.slices.proofs.SliceLaws.{pieces}
 use Rattle.slices.proofs.WalkLaws.{walked, walk-cases, write-cases, write-more, put-some, room-offsets, room-sizes, same-offsets, same-sizes}
 use Rattle.slices.proofs.write_slices.Statement.{statement}
 use Rattle.slices.proofs.write_slices.Tie as tie
 
 abbrev Inv-loop : tie.InvT-loop
-Inv-loop file size first bytes n offsets₀ sizes₀ walk₀ i₀ offsets sizes walk i = (i ≤ n) × (walk ≡ walked size (streamPage (byteAt file) size first) bytes i) × Writing (pieces size (streamPage (byteAt file) size first) bytes i) offsets₀ sizes₀ offsets sizes
+Inv-loop file x offsets₀ sizes₀ walk₀ i₀ offsets sizes walk i = (i ≤ x .pages) × (walk ≡ walked (x .pagesize) (pageIn (byteAt file) x) (x .bytes) i) × Writing (pieces (x .pagesize) (pageIn (byteAt file) x) (x .bytes) i) offsets₀ sizes₀ offsets sizes
 
 abbrev μ-loop : tie.MeasureT-loop
-μ-loop file size first bytes n offsets₀ sizes₀ walk₀ i₀ offsets sizes walk i = n - i
+μ-loop file x offsets₀ sizes₀ walk₀ i₀ offsets sizes walk i = x .pages - i
 
 begin-requires : tie.Need-begin-requires Inv-loop μ-loop
 begin-requires c κs = search needs
@@ -25,7 +25,7 @@ loop-holds : tie.Need-loop-holds Inv-loop μ-loop
 loop-holds c = (omega arith, search walk-cases, search write-cases)
 
 extend-requires : tie.Need-extend-requires Inv-loop μ-loop
-extend-requires c κs = (search needs, (omega arith, search walk-cases))
+extend-requires c κs = (search needs, (search needs, search walk-cases))
 
 put-requires : tie.Need-put-requires Inv-loop μ-loop
 put-requires c κs = (search (put-some, walk-cases), (search (room-offsets, walk-cases), search (room-sizes, walk-cases)))
@@ -38,8 +38,8 @@ loop-less c = search needs
 
 loop-again : tie.Need-loop-again Inv-loop μ-loop
 loop-again c =
-    let inv = c .before .before .before .before .before .before .before .before .before .loop .inv in
-    (omega arith, search walk-cases, write-more _ _ _ _ (inv .1) (c .before .before .before .before .before .before .before .extend .ensures) (inv .2) (c .before .before .before .before .put .ensures))
+    let inv = c .before .before .before .before .before .before .before .before .before .before .loop .inv in
+    (omega arith, search walk-cases, write-more _ _ _ _ (inv .1) (c .before .before .before .before .before .before .before .extend .ensures) (inv .2) (c .before .before .before .before .put .ensures .0) (c .before .before .before .before .put .ensures .1))
 
 same-length : tie.Need-same-length Inv-loop μ-loop
 same-length c = search same-offsets

@@ -14,20 +14,20 @@ enum-known-present c = search needs
 enum-told : tie.Need-enum-told
 enum-told c = search needs
 
-up-present-requires : tie.Need-up-present-requires
-up-present-requires c κs = search needs
+why-requires : tie.Need-why-requires
+why-requires c κs = search needs
 
 returns : tie.Need-returns
 returns c = search find-cases
-
-cast-words : tie.Need-cast-words
-cast-words c = search needs
 
 cast-sizes : tie.Need-cast-sizes
 cast-sizes c = search needs
 
 add-sizes : tie.Need-add-sizes
 add-sizes c = search needs
+
+words-requires : tie.Need-words-requires
+words-requires c κs = search needs
 
 returns-2 : tie.Need-returns-2
 returns-2 c = search find-cases
@@ -54,11 +54,11 @@ find-spec =
     size-of-requires
     enum-known-present
     enum-told
-    up-present-requires
+    why-requires
     returns
-    cast-words
     cast-sizes
     add-sizes
+    words-requires
     returns-2
     cast-pages-before
     cast-pages-before-2

@@ -8,8 +8,8 @@ use Rattle.stream.proofs.find_after.Tie as tie
 cast-size : tie.Need-cast-size
 cast-size c = search needs
 
-cast-words : tie.Need-cast-words
-cast-words c = search needs
+words-requires : tie.Need-words-requires
+words-requires c κs = search needs
 
 cast-first : tie.Need-cast-first
 cast-first c = search needs
@@ -41,8 +41,8 @@ enum-told c = search needs
 enum-told-2 : tie.Need-enum-told-2
 enum-told-2 c = search needs
 
-up-checked-requires : tie.Need-up-checked-requires
-up-checked-requires c κs = search needs
+why-requires : tie.Need-why-requires
+why-requires c κs = search needs
 
 returns-2 : tie.Need-returns-2
 returns-2 c = search after-cases
@@ -58,7 +58,7 @@ find-after-spec =
     tie.close
     (tie.spec
     cast-size
-    cast-words
+    words-requires
     cast-first
     add-first
     add-first-2
@@ -69,7 +69,7 @@ find-after-spec =
     check-pages-requires
     enum-told
     enum-told-2
-    up-checked-requires
+    why-requires
     returns-2
     returns-3
     returns-4)

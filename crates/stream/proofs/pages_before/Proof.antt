@@ -4,7 +4,7 @@ use Prim.Native.Nat.{_≤_, _-_}
 use native.Mathlib.Omega.{arith}
 use borrow.Author.Needs.{needs}
 use Rattle.parse_buffer.specs.Bytes.{byteAt}
-use Rattle.stream.specs.Promises.{Before}
+use Rattle.stream.specs.Inner.{Before}
 use Rattle.stream.proofs.StreamLaws.{before-cases, before-fits}
 use Rattle.stream.proofs.pages_before.Statement.{statement}
 use Rattle.stream.proofs.pages_before.Tie as tie

@@ -1,7 +1,7 @@
--- Everything is judged before a store is written; then what the plan says is written, and of a refusal that is nothing.
+-- Everything is judged before a store is written; then the slices of the plan are written, and of a refusal there are none.
 -- Assumes nothing.
 use borrow.Author.Needs.{needs}
-use Rattle.msf.proofs.PlaceLaws.{map-planned, room-offsets, room-sizes}
+use Rattle.msf.proofs.MsfLaws.{map-planned, room-offsets, room-sizes}
 use Rattle.msf.proofs.to_slices.map.Statement.{statement}
 use Rattle.msf.proofs.to_slices.map.Tie as tie
 
@@ -12,7 +12,7 @@ judge-requires : tie.Need-judge-requires
 judge-requires c κs = search needs
 
 write-slices-requires : tie.Need-write-slices-requires
-write-slices-requires c κs = (search needs, (search needs, (search needs, (search room-offsets, search room-sizes))))
+write-slices-requires c κs = (search needs, (search room-offsets, search room-sizes))
 
 same-length : tie.Need-same-length
 same-length c = search needs

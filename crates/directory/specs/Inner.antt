@@ -1,0 +1,11 @@
+-- What the stage below the stream count promises its callers.
+use mathlib.Core.Path.{_≡_}
+use Prim.Native.Nat.{ℕ}
+use Rattle.parse_buffer.specs.Bytes.{File}
+use Rattle.header.specs.Inner.{headedIn}
+use Rattle.header.specs.declared.Headed.{Headed}
+use Rattle.directory.specs.Directory.{reached}
+
+-- steps 1 to 5
+pub record Reaching (f : File) (len : ℕ) (r : Headed) : Type 0 where
+  pub answer : headedIn r ≡ reached f len

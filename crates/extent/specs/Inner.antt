@@ -1,0 +1,52 @@
+-- What the stages of step 8 promise their callers.
+use mathlib.Core.Path.{_≡_}
+use Prim.Native.Nat.{ℕ, _+_, _^_, _≤_, _<_}
+use Rattle.outcome.specs.Outcome.{Outcome, ok, refused, _>>=_}
+use Rattle.outcome.specs.Refusal as paper
+use Rattle.parse_buffer.specs.Bytes.{File}
+use Rattle.paged.specs.Refusal.{refusalIn}
+use Rattle.paged.specs.PageSize.{PageSize, need}
+use Rattle.paged.specs.declared.refusal.Refusal.{Refusal}
+use Rattle.paged.specs.declared.refusal.Refusal.the-variants.{ShortData}
+use Rattle.stream.specs.Stream.{ownPages}
+use Rattle.stream.specs.declared.Found.{Found}
+use Rattle.extent.specs.Extent.{Asked, asked, readable, extentOf}
+use Rattle.extent.specs.declared.limit.Limit.{Limit}
+use Rattle.extent.specs.declared.Extent.{Extent}
+use Rattle.extent.specs.declared.Measured.{Measured}
+use Rattle.extent.specs.declared.Measured.the-variants as measured
+
+-- ---- what holds of an extent: its page size passes, it has as many pages as its bytes take, and their numbers are
+-- words of a directory, which has fewer than 2^32
+pub record Extends (x : Extent) : Type 0 where
+  pub size : PageSize (x .pagesize)
+  pub whole : x .pages ≡ need (x .pagesize) (x .bytes)
+  pub small : x .first + x .pages ≤ 2 ^ 32
+
+-- and of a stream that was found
+pub record Held (x : Found) : Type 0 where
+  pub size : PageSize (x .header .pagesize)
+  pub small : x .first + ownPages x ≤ 2 ^ 32
+
+-- ---- what an answer says on paper, and why it refused (of an acceptance that is never asked)
+unfoldable pub measuredIn : Measured → Outcome paper.Refusal Extent
+measuredIn (measured.Extent x) = ok x
+measuredIn (measured.Refused why) = refused (refusalIn why)
+
+abbrev pub whyMeasured : Measured → Refusal
+whyMeasured (measured.Refused why) = why
+whyMeasured (measured.Extent x) = ShortData
+
+unfoldable pub extents : Outcome paper.Refusal Asked → Outcome paper.Refusal Extent
+extents o = do
+  x ← o
+  ok (extentOf x)
+
+-- ---- `measure` and `readable`
+pub record Measuring (f : File) (len k : ℕ) (limit : Limit) (r : Measured) : Type 0 where
+  pub answer : measuredIn r ≡ extents (asked f len k limit)
+  pub extends : (x : Extent) → measuredIn r ≡ ok x → Extends x
+
+pub record Reading (f : File) (len k : ℕ) (limit : Limit) (r : Measured) : Type 0 where
+  pub answer : measuredIn r ≡ extents (readable f len k limit)
+  pub extends : (x : Extent) → measuredIn r ≡ ok x → Extends x
