@@ -26,7 +26,7 @@
 //! // Sixteen pages of 256 bytes. Page 1 has the location list, page 2 the directory: one stream, its size, its page.
 //! let mut file = vec![0; 4096];
 //! file[..32].copy_from_slice(b"Microsoft C/C++ MSF 7.00\r\n\x1a\x44\x53\x00\x00\x00");
-//! for (at, word) in [(32, 256_u32), (40, 16), (44, 12), (52, 1), (256, 2), (512, 1), (516, 5), (520, 3)] {
+//! for (at, word) in [(32, 256_u32), (36, 1), (40, 16), (44, 12), (52, 1), (256, 2), (512, 1), (516, 5), (520, 3)] {
 //!     file[at..at + 4].copy_from_slice(&word.to_le_bytes());
 //! }
 //! file[768..773].copy_from_slice(b"hello");

@@ -40,8 +40,8 @@ fn uncounted() -> Vec<(Vec<u8>, Refusal)> {
     vec![
         (f_with(LOCATION_LIST, 0), refusal(4, 0)),
         (f_with(LOCATION_LIST, 25), refusal(4, 25)),
-        (f_with(LOCATION_ENTRY, 24), refusal(6, 0)), // the location list is past the file
-        (f_with(LOCATION_LIST, 24), refusal(6, 0)),  // the directory is
+        (f_past(LOCATION_ENTRY), refusal(6, 0)),
+        (f_past(LOCATION_LIST), refusal(6, 0)),
         (f_with(DIRECTORY_SIZE, 0), refusal(7, 0)),
         (f_with(DIRECTORY_SIZE, 3), refusal(7, 0)),
     ]
@@ -97,7 +97,7 @@ fn extracted(file: &[u8], stream: u32, limit: Option<usize>, room: usize) -> Res
 
 /// A slice reaches past the file: it is mapped, and not extracted.
 fn past_the_file() -> Vec<(Vec<u8>, u32)> {
-    vec![(f_with(LAST_PAGE, 24), 2), (f_cut(5419), 0)]
+    vec![(f_past(LAST_PAGE), 2), (f_cut(5419), 0)]
 }
 
 #[test]
@@ -118,7 +118,7 @@ fn refuses_to_open() {
 #[test]
 fn opening_does_not_read_the_directory() {
     for (file, _) in uncounted() {
-        assert_eq!(open(&file), Ok(Opened { page_size: 256, pages_used: 24 }));
+        assert_eq!(open(&file), Ok(Opened { page_size: 256, pages_used: word(&file, PAGES_USED) }));
     }
 }
 
@@ -193,8 +193,16 @@ fn the_room_of_a_mapping_is_judged_after_the_limit() {
 
 #[test]
 fn maps_what_is_past_the_file() {
-    assert_eq!(mapped(&f_with(LAST_PAGE, 24), 2, None, (2, 2)), Ok((vec![(2560, 512), (6144, 88)], 600)));
+    assert_eq!(mapped(&f_past(LAST_PAGE), 2, None, (2, 2)), Ok((vec![(2560, 512), (6144, 88)], 600)));
     assert_eq!(mapped(&f_cut(5419), 0, None, (1, 1)), Ok((vec![(5120, 300)], 300)));
+}
+
+/// Page 24, where 24 pages are used, passes as in the Rust. It lies past the file.
+#[test]
+fn the_last_page_number_passes() {
+    let file = f_with(LAST_PAGE, 24);
+    assert_eq!(mapped(&file, 2, None, (2, 2)), Ok((vec![(2560, 512), (6144, 88)], 600)));
+    assert_eq!(extracted(&file, 2, None, 1000), Err(refusal(6, 0)));
 }
 
 #[test]
@@ -245,12 +253,12 @@ fn refuses_to_extract_what_is_past_the_file() {
             assert_eq!(extracted(&file, stream, Some(usize::MAX), room), Err(refusal(6, 0)));
         }
     }
-    assert_eq!(extracted(&f_with(LAST_PAGE, 24), 2, Some(513), 1000), Err(refusal(6, 0)));
+    assert_eq!(extracted(&f_past(LAST_PAGE), 2, Some(513), 1000), Err(refusal(6, 0)));
 }
 
 #[test]
 fn extracts_what_the_limit_leaves_in_the_file() {
-    assert_eq!(extracted(&f_with(LAST_PAGE, 24), 2, Some(512), 1000), Ok(stream_2()[..512].to_vec()));
+    assert_eq!(extracted(&f_past(LAST_PAGE), 2, Some(512), 1000), Ok(stream_2()[..512].to_vec()));
     assert_eq!(extracted(&f_cut(5419), 0, Some(299), 1000), Ok(stream_0()[..299].to_vec()));
     assert_eq!(extracted(&f_cut(5419), 0, Some(0), 0), Ok(vec![]));
 }

@@ -35,6 +35,13 @@ pub fn f_with(at: usize, word: u32) -> Vec<u8> {
     file
 }
 
+/// F with a page number replaced by one that is legal and past the file.
+pub fn f_past(at: usize) -> Vec<u8> {
+    let mut file = f_with(PAGES_USED, 25);
+    put(&mut file, at, &[24]);
+    file
+}
+
 /// F cut to its first bytes.
 pub fn f_cut(length: usize) -> Vec<u8> {
     f()[..length].to_vec()
@@ -60,6 +67,11 @@ pub fn stream_0() -> Vec<u8> {
 }
 pub fn stream_2() -> Vec<u8> {
     [&f()[2560..3072], &f()[1280..1368]].concat()
+}
+
+/// The word at a place.
+pub fn word(file: &[u8], at: usize) -> u32 {
+    u32::from_le_bytes(file[at..at + 4].try_into().unwrap())
 }
 
 /// Puts words at a place.

@@ -78,42 +78,43 @@ fn whole_refusals() -> Vec<Vec<Run>> {
             bytes: bytes.to_vec(),
         }]
     };
-    let mut edits = vec![bytes(31, &[1]), bytes(0, SMALL_MAGIC)];
-    for &(at, values) in &[
-        (PAGE_SIZE, &[0, 0x80, 0x180, 0x100_0000, 0xffff_ffff][..]),
-        // A page of the location list, and one of the directory, that is none, or past the file.
-        (PAGES_USED, &[0, 2, 3]),
-        (ENTRIES, &[0, 24, 25, 0xffff_ffff]),
-        (f.location_word(0), &[0, 24, 25, 0xffff_ffff]),
-        // No count, or not all sizes.
-        (DIRECTORY_SIZE, &[0, 3, 4, 15, 16]),
-        // All sizes take 2^32 bytes and more, which are few in 32 bits.
-        (
-            f.directory_word(0),
-            &[8, 9, 0x3fff_ffff, 0x4000_0000, 0xffff_ffff],
-        ),
-    ] {
-        edits.extend(values.iter().map(|&value| vec![word(at, value)]));
-    }
+    let words = |at, values: &[u32]| -> Vec<Vec<Run>> {
+        values.iter().map(|&value| vec![word(at, value)]).collect()
+    };
     // More location entries than the header block holds.
     let entries: Vec<u8> = std::iter::repeat(3u32.to_le_bytes().to_vec())
         .take(1011)
         .flatten()
         .collect();
-    let mut too_many = bytes(ENTRIES, &entries);
-    too_many.push(word(DIRECTORY_SIZE, 16_564_225));
-    edits.push(too_many);
-    edits
+    let too_many = [
+        bytes(ENTRIES, &entries),
+        vec![word(DIRECTORY_SIZE, 16_564_225)],
+    ];
+    vec![
+        vec![bytes(31, &[1]), bytes(0, SMALL_MAGIC)],
+        words(PAGE_SIZE, &[0, 0x80, 0x180, 0x100_0000, 0xffff_ffff]),
+        // A page of the location list, and one of the directory, out of range or past the file.
+        words(PAGES_USED, &[0, 2, 3]),
+        pages(ENTRIES),
+        pages(f.location_word(0)),
+        // No count, or not all sizes.
+        words(DIRECTORY_SIZE, &[0, 3, 4, 15, 16]),
+        // All sizes take 2^32 bytes or more, which is little modulo 2^32.
+        words(
+            f.directory_word(0),
+            &[8, 9, 0x3fff_ffff, 0x4000_0000, 0xffff_ffff],
+        ),
+        vec![too_many.concat()],
+    ]
+    .concat()
 }
 
 fn stream_refusals() -> Vec<Vec<Run>> {
     let f = Container::f();
     let mut edits = Vec::new();
-    // Page numbers, which are refused where they are 0 or too large; 24 is past the file, and listed.
+    // Page numbers that are refused, and one past the file, which is listed.
     for w in 4..9 {
-        for &page in &[0, 24, 25, 0xffff_ffff] {
-            edits.push(vec![word(f.directory_word(w), page)]);
-        }
+        edits.extend(pages(f.directory_word(w)));
     }
     // Page entries that the directory does not hold: a stream's own, or those before it.
     for size in 17..40 {
@@ -125,6 +126,17 @@ fn stream_refusals() -> Vec<Vec<Run>> {
         }
     }
     edits
+}
+
+/// Page numbers at a place: out of range, and 24, which is past the file and which pages_used 25
+/// makes legal.
+fn pages(at: usize) -> Vec<Vec<Run>> {
+    vec![
+        vec![word(at, 0)],
+        vec![word(at, 24), word(PAGES_USED, 25)],
+        vec![word(at, 25)],
+        vec![word(at, 0xffff_ffff)],
+    ]
 }
 
 /// Files as long as a file that is listed may be, and a byte longer.

@@ -170,12 +170,12 @@ fn header() -> Vec<Question> {
 
 fn directory() -> Vec<Question> {
     let location_at_end = || f().put(ENTRIES, &[16]).put(4096, &[4]);
-    let two_location_pages = || f().put(DIRECTORY_SIZE, &[16_385]).put(768, &[0]);
+    let two_location_pages = || e().put(DIRECTORY_SIZE, &[16_385]).put(768, &[0]);
     let directory_at_end = || {
         let words = Container::f().directory();
         f().put(768, &[16]).put(4096, &words)
     };
-    let two_pages = || f().put(DIRECTORY_SIZE, &[257]);
+    let two_pages = || e().put(DIRECTORY_SIZE, &[257]);
     vec![
         // R25
         location_at_end().cut(4100).count(),
@@ -191,7 +191,7 @@ fn directory() -> Vec<Question> {
         directory_at_end().cut(4132).count(),
         directory_at_end().cut(4131).count(),
         // R29
-        two_pages().put(768, &[24, 25]).count(),
+        two_pages().put(768, &[24, 26]).count(),
         two_pages().put(768, &[24, 4]).count(),
         // R30
         over_two_pages().put(768, &[4, 7]).map(60),
@@ -249,13 +249,13 @@ fn mapping_and_extraction() -> Vec<Question> {
         nothing(f().put(DIRECTORY_SIZE, &[35])),
         // R39
         f().put(1056, &[25]).map(2).rooms(0, 0),
-        f().put(1056, &[24]).map(2).rooms(0, 0),
+        e().put(1056, &[24]).map(2).rooms(0, 0),
         // R40
         f().put(1056, &[25]).extract(2).room(0),
-        f().put(1056, &[24]).extract(2).room(0),
+        e().put(1056, &[24]).extract(2).room(0),
         f().extract(2).room(0),
-        f().put(1056, &[24]).extract(2).limited(512),
-        f().put(1056, &[24]).extract(2).limited(513),
+        e().put(1056, &[24]).extract(2).limited(512),
+        e().put(1056, &[24]).extract(2).limited(513),
         // R41
         marked().extract(2),
     ]
@@ -294,7 +294,7 @@ fn listing_refused() -> Vec<Question> {
         // R62
         f().put(PAGE_SIZE, &[0x180]).list(),
         f().put(768, &[0]).list(),
-        f().put(768, &[24]).put(DIRECTORY_SIZE, &[15]).list(),
+        e().put(768, &[24]).put(DIRECTORY_SIZE, &[15]).list(),
         f().put(DIRECTORY_SIZE, &[3]).list(),
         // R63
         f().put(DIRECTORY_SIZE, &[15]).list(),
@@ -318,7 +318,7 @@ fn listing() -> Vec<Question> {
         // R67
         f().put(1036, &[512]).list(),
         f().put(1036, &[513]).list(),
-        f().put(1056, &[24]).list(),
+        e().put(1056, &[24]).list(),
         // R68
         f().list(),
         f().put(1032, &[0]).list(),
@@ -346,6 +346,11 @@ fn f() -> Question {
         rooms: ROOMS,
         from: Start::Head,
     }
+}
+
+/// The table's E: page 24 is legal and past the file.
+fn e() -> Question {
+    f().put(PAGES_USED, &[25])
 }
 
 /// The table's G: every word from the first location entry to one past the header block is 3.

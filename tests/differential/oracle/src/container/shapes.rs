@@ -141,9 +141,15 @@ pub fn merging(random: &mut Random) -> About {
     };
     let mut about = About::new(container.file_of_noise(random));
     for (stream, pages) in lists.iter().enumerate() {
+        // Page 24 is past the file. With pages_used 25 it is legal.
+        let edits = if pages.contains(&24) {
+            vec![word(PAGES_USED, 25)]
+        } else {
+            Vec::new()
+        };
         let question = Question {
             stream: stream as u32,
-            ..about.question()
+            ..about.edited(&edits)
         };
         about.ask_rooms(question.clone());
         for page in 0..=pages.len() as u64 {
