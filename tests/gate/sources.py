@@ -105,8 +105,8 @@ def words(cell):
     return re.findall(r'`([^`]+)`', cell)
 
 
-def rows():
-    """The rows of the tables of operations, statements, inner functions and wrong programs."""
+def tables():
+    """Each row of each table: the name of its first column, and its cells by the names of their columns."""
     columns = None
     for line in read(ROOT / 'docs' / 'PROMISES.md').split('\n'):
         if not line.startswith('|'):
@@ -115,8 +115,22 @@ def rows():
         cells = [cell.strip() for cell in line.strip().strip('|').split('|')]
         if columns is None:
             columns = cells
-        elif columns[0] in KINDS and not re.fullmatch(r'[-:]+', cells[0]):
-            yield row_of(KINDS[columns[0]], dict(zip(columns, cells)), columns[0])
+        elif not re.fullmatch(r'[-:]+', cells[0]):
+            yield columns[0], dict(zip(columns, cells))
+
+
+def rows():
+    """The rows of the tables of operations, statements, inner functions and wrong programs."""
+    for first, cells in tables():
+        if first in KINDS:
+            yield row_of(KINDS[first], cells, first)
+
+
+def definitions():
+    """The rows of the tables of document 01's rules and checks: the definitions, and the file that has them."""
+    for first, cells in tables():
+        if first == 'Document 01':
+            yield words(cells['Definition']), words(cells['File'])[0]
 
 
 def row_of(kind, cells, first):
