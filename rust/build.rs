@@ -1,19 +1,19 @@
-//! Links the proved library, `target/staticlib/libtrovespan.a` of the repository; builds it with
-//! `rt staticlib trovespan` where it is missing or older than what it is made of.
+//! Links the proved library, `target/staticlib/libtrovespan.a` of the repository. Builds it with
+//! `rt staticlib trovespan` if it is missing or older than its sources.
 
 use std::path::{Path, PathBuf};
 use std::process::{exit, Command};
 use std::time::SystemTime;
 use std::{env, fs};
 
-/// The repository, from the package's folder, where cargo runs this. Cargo keeps this script compiled, and what it said;
-/// with paths from here both stay right where the tree is moved.
+/// The repository, relative to the package's folder, where cargo runs this. Cargo keeps the compiled script and its
+/// output; with relative paths both stay valid if the tree is moved.
 const ROOT: &str = "..";
 
 fn main() {
     println!("cargo:rerun-if-changed=build.rs");
     if !linkable() {
-        // Checking and documenting need no archive, so that is no error yet.
+        // Checking and documenting need no archive, so this is not an error yet.
         println!(
             "cargo:warning=the proved library is code for x86-64 Linux, and no program for {} can link it: build with \
              rust/cargo, which builds for x86-64 and runs what it builds under an emulator",
@@ -34,14 +34,14 @@ fn main() {
     link(&archive);
 }
 
-/// The target is what the archive has code for. A `usize` of the Rust side is one of the proved side.
+/// Whether the target is the one that the archive is compiled for, so that `usize` is the same on both sides.
 fn linkable() -> bool {
     [("ARCH", "x86_64"), ("OS", "linux"), ("POINTER_WIDTH", "64")]
         .iter()
         .all(|(name, value)| variable(&format!("CARGO_CFG_TARGET_{name}")) == *value)
 }
 
-/// What the archive is made of: crates.txt, and the files of the crates that its line for trovespan names.
+/// The archive's sources: crates.txt, and the files of the crates that its line for trovespan names.
 fn sources() -> Vec<PathBuf> {
     let list = Path::new(ROOT).join("crates.txt");
     let text = fs::read_to_string(&list).unwrap_or_else(|e| stop(&format!("{}: {e}", list.display())));
@@ -52,7 +52,7 @@ fn sources() -> Vec<PathBuf> {
     parts.filter(|part| part.exists()).chain([list]).collect()
 }
 
-/// The file of these files and folders that was changed last.
+/// The most recently changed file of these files and folders.
 fn newest(paths: &[PathBuf]) -> PathBuf {
     let files = paths.iter().flat_map(|path| files(path));
     files.max_by_key(|file| modified(file)).unwrap_or_else(|| stop("the proved library has no sources"))
@@ -66,7 +66,7 @@ fn files(path: &Path) -> Vec<PathBuf> {
     }
 }
 
-/// It is missing, or older than the newest of its sources.
+/// Whether the archive is missing, or older than its newest source.
 fn is_stale(archive: &Path, newest: &Path) -> bool {
     modified(archive).map_or(true, |built| Some(built) < modified(newest))
 }
@@ -90,13 +90,13 @@ fn build() {
     }
 }
 
-/// Gives the archive the date of its newest source. Cargo takes what is written while this script runs for a change after
-/// it, and would run it once more. Where the date cannot be set, that is all that happens.
+/// Gives the archive the date of its newest source. Otherwise cargo takes it for a change made after this script, and
+/// runs the script once more. That is all that happens if the date cannot be set.
 fn date_as(archive: &Path, newest: &Path) {
     let _ = Command::new("touch").arg("-r").args([newest, archive]).status();
 }
 
-/// Links a copy in the folder that cargo gives to this script, which cargo finds again where the tree is moved.
+/// Links a copy in the folder that cargo gives this script. Cargo finds that folder again if the tree is moved.
 fn link(archive: &Path) {
     let folder = variable("OUT_DIR");
     let copied = fs::copy(archive, Path::new(&folder).join("libtrovespan.a"));

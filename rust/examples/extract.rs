@@ -1,6 +1,6 @@
 //! extract FILE STREAM OUT: writes the bytes of a stream of a PDB file, of any size, to OUT.
 //!
-//! Where anything fails there is one line on standard error, and OUT is neither made nor changed.
+//! On failure prints one line on standard error, and neither makes nor changes OUT.
 
 mod common;
 
@@ -12,7 +12,7 @@ use std::path::{Path, PathBuf};
 use std::process;
 use trovespan::Refusal;
 
-/// The refusal whose value is the room that is needed.
+/// The refusal whose value is the room needed.
 const NO_ROOM: u32 = 10;
 
 fn main() {
@@ -26,7 +26,7 @@ fn main() {
     }
 }
 
-/// A stream's number: decimal digits alone, of a value that a stream's number can have.
+/// Parses a stream number: decimal digits alone, in range.
 fn number(word: &OsStr) -> u32 {
     let digits = word.to_str().filter(|word| word.bytes().all(|b| b.is_ascii_digit()));
     digits.and_then(|digits| digits.parse().ok()).unwrap_or_else(|| {
@@ -45,7 +45,7 @@ fn extract(file: &[u8], stream: u32) -> Result<Vec<u8>, Refusal> {
     Ok(bytes)
 }
 
-/// What is no file, such as a pipe, is written as it is, since it must not be replaced.
+/// Writes to OUT. If OUT is not a regular file but, for example, a pipe, it is written in place, not replaced.
 fn write(out: &Path, bytes: &[u8]) -> io::Result<()> {
     match fs::metadata(out) {
         Ok(data) if data.is_file() => replace(&fs::canonicalize(out)?, bytes, Some(data.permissions())),
@@ -55,8 +55,8 @@ fn write(out: &Path, bytes: &[u8]) -> io::Result<()> {
     }
 }
 
-/// Writes a file by way of another beside it, which takes its name once it is whole: so a disk that is full spoils nothing.
-/// Permissions are those of the file that is replaced.
+/// Writes another file beside OUT and renames it once it is complete, so a full disk leaves OUT unchanged. Keeps the
+/// permissions of the file that is replaced.
 fn replace(out: &Path, bytes: &[u8], permissions: Option<Permissions>) -> io::Result<()> {
     let beside = beside(out)?;
     let mut file = OpenOptions::new().write(true).create_new(true).open(&beside)?;
@@ -65,13 +65,13 @@ fn replace(out: &Path, bytes: &[u8], permissions: Option<Permissions>) -> io::Re
         .and_then(|()| permissions.map_or(Ok(()), |permissions| file.set_permissions(permissions)))
         .and_then(|()| fs::rename(&beside, out));
     if replaced.is_err() {
-        // There is nothing more to do, or to say, where that fails too.
+        // If that fails too, there is nothing more to do.
         let _ = fs::remove_file(&beside);
     }
     replaced
 }
 
-/// A name in the same folder that no other run of this program takes.
+/// A name in the same folder that no other run of this program uses.
 fn beside(out: &Path) -> io::Result<PathBuf> {
     let name = out.file_name().ok_or(ErrorKind::InvalidInput)?;
     let mut hidden = OsString::from(".");

@@ -1,8 +1,8 @@
-//! list FILE: which streams a PDB file of any size holds.
+//! list FILE: lists the streams of a PDB file of any size.
 //!
-//! The text is that of the proved program `list`, without its limits: `streams N`, then for each stream its number, its
-//! size and its slices, or `K refused C V` where it cannot be mapped. A file that cannot be listed has the one line
-//! `refused C V`, a line on standard error, and status 1.
+//! The output is that of the proved program `list`, without its limits: `streams N`, then for each stream its number,
+//! size and number of slices, or `K refused C V` if it cannot be mapped. For a file that cannot be listed it is the one
+//! line `refused C V`, with a line on standard error and status 1.
 
 mod common;
 
@@ -10,12 +10,12 @@ use common::{read, shown, stop, words, FAILED};
 use std::io::{self, BufWriter, Write};
 use trovespan::{Mapped, Refusal};
 
-// Refusals that have a meaning of their own here.
+// Refusals that are treated in a special way here.
 const STREAM_NOT_FOUND: u32 = 5;
 const SHORT_DATA: u32 = 7;
 const NO_ROOM: u32 = 10;
 
-/// Where the header has the directory's size.
+/// Where the directory's size is in the header.
 const DIRECTORY_SIZE: usize = 44;
 
 fn main() {
@@ -35,7 +35,7 @@ fn main() {
     }
 }
 
-/// How many streams there are, if the directory holds the sizes of all: so a count that is made up is not believed.
+/// Returns the number of streams, if the directory holds all their sizes. So a made-up count is not believed.
 fn listable(file: &[u8]) -> Result<u32, Refusal> {
     let streams = trovespan::stream_count(file)?;
     if 4 + 4 * u64::from(streams) > u64::from(directory_size(file)) {
@@ -44,21 +44,21 @@ fn listable(file: &[u8]) -> Result<u32, Refusal> {
     Ok(streams)
 }
 
-/// Of a file whose streams could be counted, which has a whole header.
+/// Precondition: the streams of the file could be counted, so it has a whole header.
 fn directory_size(file: &[u8]) -> u32 {
     let word = &file[DIRECTORY_SIZE..DIRECTORY_SIZE + 4];
     u32::from_le_bytes([word[0], word[1], word[2], word[3]])
 }
 
-/// Each mapping opens the file anew and walks its directory, so the time is that of the directory for each stream, or
-/// twice that; the proved program opens once for all.
+/// Each mapping opens the file and walks its directory, so the time is that of the directory for each stream, or twice
+/// that. The proved program opens the file once.
 fn write_lines(file: &[u8], streams: u32, out: &mut impl Write) -> io::Result<()> {
     let mut stores = Stores::default();
     writeln!(out, "streams {streams}")?;
     for stream in 0..streams {
         match stores.map(file, stream) {
             Ok(mapped) => writeln!(out, "{stream} {} {}", mapped.length, mapped.slices)?,
-            // There are more streams than this one, so it is absent.
+            // The number is below the count, so the stream is absent.
             Err(why) if why.number == STREAM_NOT_FOUND => writeln!(out, "{stream} 0 0")?,
             Err(why) => writeln!(out, "{stream} {}", refused(why))?,
         }
@@ -70,7 +70,7 @@ fn refused(why: Refusal) -> String {
     format!("refused {} {}", why.number, why.value)
 }
 
-/// Room for a stream's slices, kept from stream to stream, so that few are mapped twice.
+/// Stores for a stream's slices, kept from stream to stream, so that few streams are mapped twice.
 #[derive(Default)]
 struct Stores {
     offsets: Vec<u64>,
@@ -78,7 +78,7 @@ struct Stores {
 }
 
 impl Stores {
-    /// Maps a whole stream, with more room where it takes more.
+    /// Maps a whole stream, and grows the stores if needed.
     fn map(&mut self, file: &[u8], stream: u32) -> Result<Mapped, Refusal> {
         match trovespan::map(file, stream, None, &mut self.offsets, &mut self.sizes) {
             Err(Refusal { number: NO_ROOM, value }) => {

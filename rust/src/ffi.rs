@@ -1,7 +1,7 @@
-//! The proved library's functions, and all that is unsafe here. A slice crosses as a pointer and a length.
+//! The proved library's functions, and all unsafe code. A slice crosses as a pointer and a length.
 //!
-//! No compiler checks these declarations against `crates/trovespan/src/lib.rt`; `tests/crate/run` does, word by word, and
-//! the comparison with pdb calls each of them.
+//! No compiler checks these declarations against `crates/trovespan/src/lib.rt`. `tests/crate/run` does, word by word,
+//! and the comparison with pdb calls each function.
 #![deny(unsafe_op_in_unsafe_fn)]
 
 mod c {
@@ -52,13 +52,13 @@ mod c {
     }
 }
 
-/// What a step tells in place of an opcode at the end.
+/// The opcode of a step at the end.
 pub const NO_OPCODE: u32 = 0;
 
-// SAFETY, of each call below: every pointer and length is that of a slice, or of a number, that is borrowed for the call.
-// So it is there, and what is written overlaps nothing else that is lent. That is all that is asked: the callee is proved
-// for any contents and any lengths, reads and writes within these alone, and keeps no pointer. The pointer of an empty
-// slice points to nothing, and the callee reads nothing through it.
+// SAFETY, of each call below: every pointer is that of a slice, or of a number, borrowed for the call, and every length
+// is that slice's. So the memory is there and aligned, and what is written overlaps nothing else that is lent. The
+// callee asks for no more: it is proved for any contents and lengths, reads and writes only within them, and keeps no
+// pointer. It reads nothing through the pointer of an empty slice.
 
 pub fn open(file: &[u8]) -> (u32, u64, u64) {
     let (mut value, mut used) = (0, 0);

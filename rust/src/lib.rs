@@ -1,12 +1,12 @@
-//! Reads the container of PDB files (MSF) and decodes binary annotations, by a library that is proved.
+//! Reads the container of PDB files (MSF) and decodes binary annotations, with a proved library.
 //!
-//! A container is asked by [`open`], [`stream_count`], [`map`] and [`extract`]; annotations by [`number`], [`step`] and
-//! [`decode`]. Every function answers for any input, and none allocates.
+//! [`open`], [`stream_count`], [`map`] and [`extract`] read a container; [`number`], [`step`] and [`decode`] read
+//! annotations. Every function returns for any input, and none allocates.
 //!
 //! # Stores
 //!
-//! An answer of many entries goes to a store that the caller lends. A success writes the first entries only, as many as it
-//! says; the others stay. A refusal writes nothing. Where the store is too small, refusal 10 says how many entries are
+//! The caller lends a store for an answer of many entries. A success writes the first entries, as many as it returns,
+//! and leaves the others. A refusal writes nothing. If the store is too small, refusal 10 says how many entries are
 //! needed, so an empty store asks for the size:
 //!
 //! ```
@@ -23,7 +23,7 @@
 //!     Ok(bytes)
 //! }
 //!
-//! // Sixteen pages of 256 bytes. Page 1 has the location list, page 2 the directory: one stream, its size, its page.
+//! // Sixteen pages of 256 bytes. Page 1 has the location list, page 2 the directory: stream count, size, page.
 //! let mut file = vec![0; 4096];
 //! file[..32].copy_from_slice(b"Microsoft C/C++ MSF 7.00\r\n\x1a\x44\x53\x00\x00\x00");
 //! for (at, word) in [(32, 256_u32), (36, 1), (40, 16), (44, 12), (52, 1), (256, 2), (512, 1), (516, 5), (520, 3)] {
@@ -38,20 +38,20 @@
 //!
 //! # Refusals
 //!
-//! | Number | Value | Given when |
+//! | Number | Value | Returned when |
 //! |---|---|---|
-//! | 1 | 0 | the file has under 4,096 bytes, or begins with no magic of a PDB file |
+//! | 1 | 0 | the file has fewer than 4,096 bytes, or does not begin with the magic of a PDB file |
 //! | 2 | 0 | the file begins with the magic of the small format |
-//! | 3 | the size | the page size has not exactly one bit set, or lies outside 0x100 to 0x800000 |
+//! | 3 | the size | the page size is not a power of two from 0x100 to 0x800000 |
 //! | 4 | the page | a page number is 0 or above the number of pages used |
-//! | 5 | the stream | there are not so many streams, or this one is absent |
-//! | 6 | 0 | the file ends before what is to be read of it |
-//! | 7 | 0 | the header block, the directory or the annotation bytes end before what is to be read of them |
+//! | 5 | the stream | the stream number is not below the stream count, or the stream is absent |
+//! | 6 | 0 | the file ends too early |
+//! | 7 | 0 | the header block, the directory or the annotation bytes end too early |
 //! | 8 | 0 | a compressed number of four bytes begins with 0xe0 or more |
 //! | 9 | the opcode | an annotation's opcode is above 13 |
 //! | 10 | the entries needed | the answer is complete, but the store is too small for it |
 //!
-//! Where several conditions hold, the one that is met first in reading decides.
+//! If several conditions hold, the first one met in reading decides.
 #![deny(unsafe_code)]
 #![warn(missing_docs)]
 
@@ -59,7 +59,7 @@
 mod ffi;
 mod said;
 
-/// Why a function refuses. [The table](crate#refusals) has the numbers and their values.
+/// Why a function refuses. See [the table](crate#refusals) of numbers and values.
 #[derive(Clone, Copy, Debug, PartialEq, Eq, Hash)]
 pub struct Refusal {
     /// 1 to 10.
@@ -68,52 +68,52 @@ pub struct Refusal {
     pub value: u64,
 }
 
-/// What a container's header says.
+/// The header of a container.
 #[derive(Clone, Copy, Debug, PartialEq, Eq, Hash)]
 pub struct Opened {
-    /// How many bytes a page has.
+    /// The number of bytes in a page.
     pub page_size: u32,
-    /// How many pages are used: the largest page number that is not refused.
+    /// The number of pages used, which is also the largest page number that is not refused.
     pub pages_used: u32,
 }
 
-/// How much [`map`] has mapped.
+/// What [`map`] returns.
 #[derive(Clone, Copy, Debug, PartialEq, Eq, Hash)]
 pub struct Mapped {
-    /// How many slices there are: so many entries of each store were written.
+    /// The number of slices, which is the number of entries written to each store.
     pub slices: usize,
-    /// How many bytes the slices have together.
+    /// The number of bytes in all slices.
     pub length: usize,
 }
 
-/// What one step over binary annotations finds.
+/// What [`step`] finds.
 #[derive(Clone, Copy, Debug, PartialEq, Eq, Hash)]
 pub enum Step {
     /// An annotation.
     Annotation {
         /// 1 to 13.
         opcode: u32,
-        /// Its first operand.
+        /// The first operand.
         first: i64,
-        /// Its second operand; 0 where it has none.
+        /// The second operand, or 0 if it has none.
         second: i64,
     },
     /// There are no more annotations.
     End,
-    /// No annotation can be read here: 7, 8 or 9.
+    /// Refusal 7, 8 or 9: no annotation can be read here.
     Refused(Refusal),
 }
 
 /// Why [`decode`] refuses.
 #[derive(Clone, Copy, Debug, PartialEq, Eq, Hash)]
 pub struct DecodeRefusal {
-    /// The first refusal that is met: 7, 8, 9 or, where there is no other, 10.
+    /// The first refusal met: 7, 8 or 9, or 10 if there is no other.
     pub refusal: Refusal,
-    /// The place after what was refused; none for 10.
+    /// The place after what was refused. `None` for 10.
     pub place: Option<usize>,
 }
 
-/// Opens a container: its page size, and how many pages it uses.
+/// Opens a container and returns its page size and the number of pages used.
 ///
 /// Refuses with 1, 2, 3, 4 or 7.
 pub fn open(file: &[u8]) -> Result<Opened, Refusal> {
@@ -122,7 +122,7 @@ pub fn open(file: &[u8]) -> Result<Opened, Refusal> {
     Ok(Opened { page_size: value as u32, pages_used: used as u32 })
 }
 
-/// How many streams a container has, absent ones included.
+/// Returns the number of streams in a container, absent ones included.
 ///
 /// Refuses as [`open`] does, and with 6.
 pub fn stream_count(file: &[u8]) -> Result<u32, Refusal> {
@@ -131,12 +131,12 @@ pub fn stream_count(file: &[u8]) -> Result<u32, Refusal> {
     Ok(value as u32)
 }
 
-/// Maps a stream, or its first `limit` bytes, to slices of the file: where each begins goes to `offsets`, how many bytes
-/// it has to `sizes`. The slices in their order are the stream.
+/// Maps a stream, or its first `limit` bytes, to slices of the file. Writes where each slice begins to `offsets`, and
+/// its length to `sizes`. The slices, in order, are the stream.
 ///
-/// Refuses as [`stream_count`] does, with 5, and with 10 where the shorter store has fewer entries than there are slices.
-/// All pages of the stream are judged, whatever the limit. A slice may lie past the end of the file; [`extract`] refuses
-/// that.
+/// Refuses as [`stream_count`] does, with 5, and with 10 if the shorter store has fewer entries than there are slices.
+/// All page numbers of the stream are checked, whatever the limit. A slice may lie past the end of the file;
+/// [`extract`] refuses that.
 pub fn map(
     file: &[u8],
     stream: u32,
@@ -149,17 +149,16 @@ pub fn map(
     Ok(Mapped { slices: value as usize, length: total as usize })
 }
 
-/// Copies a stream, or its first `limit` bytes, to the front of `out`, and answers how many bytes these are.
+/// Copies a stream, or its first `limit` bytes, to the front of `out`, and returns the number of bytes copied.
 ///
-/// Refuses as [`map`] does, with 6 also where a slice reaches past the end of the file, and with 10 where `out` has fewer
-/// bytes than are to be copied.
+/// Refuses as [`map`] does, with 6 also if a slice reaches past the end of the file, and with 10 if `out` is too short.
 pub fn extract(file: &[u8], stream: u32, limit: Option<usize>, out: &mut [u8]) -> Result<usize, Refusal> {
     let (number, value) = ffi::extract(file, stream, limit, out);
     accepted(number, value)?;
     Ok(value as usize)
 }
 
-/// The compressed number at a place, or 7 or 8, and the place after it. After 7 that is the end of the bytes.
+/// Returns the compressed number at a place, or 7 or 8, and the place after it. After 7 that is the end of the bytes.
 ///
 /// ```
 /// assert_eq!(trovespan::number(&[0x81, 0x02], 0), (Ok(0x102), 2));
@@ -169,8 +168,8 @@ pub fn number(bytes: &[u8], at: usize) -> (Result<u32, Refusal>, usize) {
     (accepted(number, value).map(|()| value as u32), next as usize)
 }
 
-/// One step over binary annotations: what stands at a place, and the place after it, from which the next step goes on.
-/// After the end, and after 7, that is the end of the bytes.
+/// Takes one step over binary annotations. Returns what is at a place, and the place after it, where the next step goes
+/// on. After the end, and after 7, that is the end of the bytes.
 ///
 /// ```
 /// use trovespan::Step;
@@ -189,10 +188,10 @@ pub fn step(bytes: &[u8], at: usize) -> (Step, usize) {
 }
 
 /// Decodes all annotations to the front of `store`, three entries each: opcode, first operand, second operand or 0.
-/// Answers how many annotations there are.
+/// Returns the number of annotations.
 ///
-/// Refuses with the first refusal of a step; where there is none, with 10 if the store has fewer than three entries an
-/// annotation.
+/// Refuses with the first refusal of a step. If there is none, refuses with 10 if the store has fewer than three
+/// entries for each annotation.
 ///
 /// ```
 /// let mut store = [0; 6];
@@ -206,10 +205,10 @@ pub fn decode(bytes: &[u8], store: &mut [i64]) -> Result<usize, DecodeRefusal> {
     Ok(value as usize)
 }
 
-/// The refusal of a store that is too small.
+/// The refusal for a store that is too small.
 const NO_ROOM: u32 = 10;
 
-/// What the proved side returns is 0, or a refusal's number.
+/// The proved library returns 0, or a refusal's number.
 fn accepted(number: u32, value: u64) -> Result<(), Refusal> {
     match number {
         0 => Ok(()),

@@ -4,7 +4,7 @@ use crate::{DecodeRefusal, Refusal};
 use std::error::Error;
 use std::fmt::{Display, Formatter, Result};
 
-/// One line: the number, and what it says.
+/// One line: the number and its meaning.
 impl Display for Refusal {
     fn fmt(&self, f: &mut Formatter<'_>) -> Result {
         let value = self.value;

@@ -1,8 +1,9 @@
-//! The functions of binary annotations: each accepted and refused, with every refusal it can give, and the store after it.
+//! The functions on binary annotations: accepted, and refused with every refusal they can give, with the store after
+//! it.
 
 use trovespan::{decode, number, step, DecodeRefusal, Refusal, Step};
 
-/// What stands in a store before a call.
+/// What a store holds before a call.
 const BEFORE: i64 = -0x5eed_5eed_5eed_5eed;
 
 const SHORT_DATA: Refusal = Refusal { number: 7, value: 0 };
@@ -135,7 +136,7 @@ fn goes_on_after_each_step() {
     assert_eq!(steps, wanted);
 }
 
-/// Decodes into a store of so many entries. After a refusal it is as before, after an answer all entries past it.
+/// Decodes into a store of `room` entries, and checks that no entry past the answer changed.
 fn decoded(bytes: &[u8], room: usize) -> Result<Vec<i64>, DecodeRefusal> {
     let mut store = vec![BEFORE; room];
     let answer = decode(bytes, &mut store);
@@ -189,7 +190,7 @@ fn refuses_to_decode_what_a_step_refuses() {
         (&[3, 5, 14, 5], unknown_opcode(14), 3),
     ];
     for (bytes, refusal, place) in refused {
-        // Whatever the room: 10 is of answers that are complete.
+        // The room does not matter: 10 is for complete answers.
         for room in [0, 2, 3, 100] {
             assert_eq!(decoded(bytes, room), Err(DecodeRefusal { refusal, place: Some(place) }));
         }

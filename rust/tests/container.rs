@@ -1,11 +1,11 @@
-//! The container's functions: each accepted and refused, with every refusal it can give, and the stores after it.
+//! The functions on containers: accepted, and refused with every refusal they can give, with the stores after it.
 
 mod files;
 
 use files::*;
 use trovespan::{extract, map, open, stream_count, Mapped, Opened, Refusal};
 
-/// What stands in a store before a call.
+/// What a store holds before a call.
 const BEFORE: u64 = 0xdead_beef_dead_beef;
 const BYTE_BEFORE: u8 = 0xa5;
 
@@ -60,18 +60,18 @@ fn unmapped() -> Vec<(Vec<u8>, u32, Refusal)> {
         (f_with(LAST_PAGE, u32::MAX), 2, refusal(4, 0xffff_ffff)),
         (f_with(DIRECTORY_SIZE, 15), 0, refusal(7, 0)), // not all sizes
         (f_with(DIRECTORY_SIZE, 35), 2, refusal(7, 0)), // not all pages
-        (f_with(SIZE_0, 1281), 2, refusal(7, 0)),       // nor here, by what comes before
+        (f_with(SIZE_0, 1281), 2, refusal(7, 0)),       // not all pages, since stream 0 has more
         (f_with(COUNT, u32::MAX), 0, refusal(7, 0)),
     ]
 }
 
-/// All the files and streams above: no stream of any is mapped.
+/// All the files and streams above. None of these is mapped.
 fn all_unmapped() -> Vec<(Vec<u8>, u32, Refusal)> {
     let whole = unopened().into_iter().chain(uncounted());
     whole.map(|(file, why)| (file, 2, why)).chain(unmapped()).collect()
 }
 
-/// Maps into stores of so many entries. After a refusal both are as before, after an answer all entries past it.
+/// Maps into stores of `rooms` entries, and checks that no entry past the answer changed.
 fn mapped(
     file: &[u8],
     stream: u32,
@@ -86,7 +86,7 @@ fn mapped(
     Ok((offsets.into_iter().zip(sizes).take(slices).collect(), length))
 }
 
-/// Extracts into a store of so many bytes, with the same care.
+/// Extracts into a store of `room` bytes, and checks the same.
 fn extracted(file: &[u8], stream: u32, limit: Option<usize>, room: usize) -> Result<Vec<u8>, Refusal> {
     let mut out = vec![BYTE_BEFORE; room];
     let answer = extract(file, stream, limit, &mut out);
@@ -95,7 +95,7 @@ fn extracted(file: &[u8], stream: u32, limit: Option<usize>, room: usize) -> Res
     Ok(out)
 }
 
-/// A slice reaches past the file: it is mapped, and not extracted.
+/// Files and streams with a slice past the file: mapped, but not extracted.
 fn past_the_file() -> Vec<(Vec<u8>, u32)> {
     vec![(f_past(LAST_PAGE), 2), (f_cut(5419), 0)]
 }
@@ -197,7 +197,7 @@ fn maps_what_is_past_the_file() {
     assert_eq!(mapped(&f_cut(5419), 0, None, (1, 1)), Ok((vec![(5120, 300)], 300)));
 }
 
-/// Page 24, where 24 pages are used, passes as in the Rust. It lies past the file.
+/// Document 01's case: of 24 pages used, page 24 is accepted, as in the Rust. It lies past the file.
 #[test]
 fn the_last_page_number_passes() {
     let file = f_with(LAST_PAGE, 24);

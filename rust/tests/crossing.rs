@@ -1,8 +1,9 @@
 //! Each number that crosses to the library, or back, keeps all its bits.
 //!
-//! Some of the library's numbers are large only for inputs that no test can lend, such as 2^32 annotations. So functions of
-//! the same names stand in for it here: the linker takes a program's own and leaves those of a library. Each returns the
-//! first byte that it is lent, and tells numbers of 64 bits, those that it is given or `VALUE` and `OTHER`.
+//! Some of the library's numbers are large only for inputs that no test can lend, such as 2^32 annotations. So
+//! functions of the same names stand in for the library here: the linker prefers a program's own functions. Each
+//! returns the first byte that it is lent, and writes numbers of 64 bits: those that it is given, or `VALUE` and
+//! `OTHER`.
 
 use trovespan::{decode, extract, map, number, open, step, stream_count};
 use trovespan::{DecodeRefusal, Mapped, Opened, Refusal, Step};
@@ -10,7 +11,7 @@ use trovespan::{DecodeRefusal, Mapped, Opened, Refusal, Step};
 const VALUE: u64 = 0xfedc_ba98_7654_3210;
 const OTHER: u64 = 0xf0e1_d2c3_b4a5_9687;
 
-// What these read and write is what `rust/src/ffi.rs` lends them.
+// These functions read and write what `rust/src/ffi.rs` lends them.
 
 #[no_mangle]
 unsafe extern "C" fn trovespan_open(file: *const u8, _: usize, value: *mut u64, used: *mut u64) -> u32 {

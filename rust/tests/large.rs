@@ -1,5 +1,5 @@
-//! Lengths, places, limits and counts of more than 16 and of more than 32 bits. What is lent is a little longer than 2^32,
-//! so that a length which is cut to 16 or 32 bits is close to 0.
+//! Lengths, places, limits and counts of more than 16 and of more than 32 bits. The lent memory is a little longer than
+//! 2^32, so that a length cut to 16 or 32 bits is close to 0.
 
 mod files;
 mod zeros;
@@ -27,7 +27,7 @@ fn files_over_4_gib() {
     assert_eq!(out[..], stream_2());
 }
 
-/// Two entries are needed, or three. A success writes these alone.
+/// Two entries are needed, or three. A success writes only these.
 #[test]
 fn stores_over_2_32_entries() {
     let mapped = Ok(Mapped { slices: 2, length: 600 });
@@ -85,7 +85,7 @@ fn limits_far_past_a_stream() {
     }
 }
 
-/// The next place, the count, what is needed, and the place after a refusal.
+/// The next place, the count, the entries needed, and the place after a refusal.
 #[test]
 fn more_than_65536_annotations() {
     let count = BITS_17 + 5;
@@ -105,8 +105,9 @@ fn more_than_65536_annotations() {
     assert_eq!(decode(&bytes, &mut store), Err(DecodeRefusal { refusal: unknown, place: Some(2 * count + 4) }));
 }
 
-/// Two pages of 8 MiB. The second is location list and directory, and all that the one stream has: of a stream of the
-/// largest size each page is a slice. The Rust would have to make a vector of that size, so it cannot be asked.
+/// Two pages of 8 MiB. The second holds the location list and the directory, and is every page of the one stream, so
+/// each of the 512 pages is a slice. The Rust would allocate the stream's size, the largest possible, so it cannot be
+/// asked.
 #[test]
 fn the_largest_stream() {
     const SIZE: u32 = 0xffff_fffe;
@@ -122,7 +123,7 @@ fn the_largest_stream() {
     assert_eq!(extract(&file, 0, Some(1 << 31), &mut []), Err(Refusal { number: 10, value: 1 << 31 }));
 }
 
-/// A slice begins at its page's number times the page size, wherever that is.
+/// A slice begins at its page number times the page size, also past the file.
 #[test]
 fn slices_past_4_gib() {
     let pages = [511, 512, 600, 0x8000_0000, 0xffff_ffff];
@@ -133,8 +134,8 @@ fn slices_past_4_gib() {
     assert_eq!(sizes, [2 << 23, 1 << 23, 1 << 23, 1 << 23]);
 }
 
-/// 16 MiB in pages of 8 MiB with one stream. Page 1 begins with the location list, which is page 1, and which is the
-/// directory's count too.
+/// 16 MiB in pages of 8 MiB with one stream. Page 1 holds the location list and the directory. Its first word, 1, is
+/// both the location list and the directory's count.
 fn paged(size: u32, pages: &[u32]) -> Vec<u8> {
     let mut file = vec![0; 2 << 23];
     file[..4096].copy_from_slice(&f()[..4096]);

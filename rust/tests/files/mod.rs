@@ -1,13 +1,13 @@
 //! Containers as files.
-#![allow(dead_code)] // Each test takes what it needs.
+#![allow(dead_code)] // Each test uses what it needs.
 
 const MAGIC: &[u8; 32] = b"Microsoft C/C++ MSF 7.00\r\n\x1a\x44\x53\x00\x00\x00";
 pub const SMALL_MAGIC: &[u8; 42] = b"Microsoft C/C++ program database 2.00\r\n\x1a\x4a\x47";
 
-/// The size of a stream that is not there.
+/// The size of an absent stream.
 pub const ABSENT: u32 = 0xffff_ffff;
 
-// Where file F has its words.
+// Where the words of file F are.
 pub const PAGE_SIZE: usize = 32;
 pub const PAGES_USED: usize = 40;
 pub const DIRECTORY_SIZE: usize = 44;
@@ -18,7 +18,7 @@ pub const SIZE_0: usize = COUNT + 4;
 pub const LAST_PAGE: usize = COUNT + 32;
 
 /// File F of the project's rules, 24 pages of 256 bytes: stream 0 has 300 bytes in pages 20 and 21, stream 1 is absent,
-/// stream 2 has 600 bytes in pages 10, 11 and 5. No two neighbouring bytes of what it leaves open are equal.
+/// stream 2 has 600 bytes in pages 10, 11 and 5. Among the other bytes no two neighbours are equal.
 pub fn f() -> Vec<u8> {
     let mut file: Vec<u8> = (0..6144).map(|i| (i % 251) as u8).collect();
     file[..MAGIC.len()].copy_from_slice(MAGIC);
@@ -47,21 +47,21 @@ pub fn f_cut(length: usize) -> Vec<u8> {
     f()[..length].to_vec()
 }
 
-/// F with other bytes at its front.
+/// F with other bytes at the front.
 pub fn f_headed(front: &[u8]) -> Vec<u8> {
     let mut file = f();
     file[..front.len()].copy_from_slice(front);
     file
 }
 
-/// F with a directory so large that its location list takes one entry more than the header block holds.
+/// F with a directory so large that it needs one location entry more than the header block holds.
 pub fn f_overfull() -> Vec<u8> {
     let mut file = f_with(DIRECTORY_SIZE, 16_564_225);
     put(&mut file, LOCATION_ENTRY, &[3; 1011]);
     file
 }
 
-/// The bytes of F's streams, by their pages.
+/// The bytes of F's streams.
 pub fn stream_0() -> Vec<u8> {
     f()[5120..5420].to_vec()
 }

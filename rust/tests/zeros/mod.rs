@@ -1,4 +1,4 @@
-//! Zeros to lend, of any length: only what is touched takes memory, so more can be lent than the machine has.
+//! Zeros to lend, of any length. Only touched pages take memory, so a test can lend more than the machine has.
 
 use std::{mem, ptr, slice};
 
@@ -13,17 +13,17 @@ const ANONYMOUS: i32 = 0x20;
 const NO_RESERVE: i32 = 0x4000;
 const FAILED: usize = usize::MAX;
 
-/// What stores and inputs are made of. Zeros are a value of each.
+/// The entries of stores and inputs. Zero bytes are a valid value of each.
 pub trait Number {}
 impl Number for u8 {}
 impl Number for u64 {}
 impl Number for i64 {}
 
-/// So many zeros, until the program ends.
+/// Returns `length` zeros that live until the program ends.
 pub fn zeros<T: Number>(length: usize) -> &'static mut [T] {
     let flags = PRIVATE | ANONYMOUS | NO_RESERVE;
-    // SAFETY: the memory is new, so nobody else has it, it holds zeros, and it is never taken back. It begins with a page,
-    // so it is aligned.
+    // SAFETY: the memory is new, so nothing else refers to it. It holds zeros and is never unmapped. It begins at a
+    // page boundary, so it is aligned.
     unsafe {
         let first = mmap(ptr::null_mut(), length * mem::size_of::<T>(), READ_AND_WRITE, flags, -1, 0);
         assert_ne!(first as usize, FAILED, "the system lends no {length} numbers");
