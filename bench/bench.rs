@@ -1,9 +1,9 @@
-//! Ours through the crate `trovespan` beside pdb's own code, on the same inputs in one process.
-//! Built into the oracle of `tests/differential`, which has pdb's code; `bench/run` builds and runs
-//! it.
+//! Measures ours, through the crate `trovespan`, and pdb's own code, on the same inputs in one process.
+//! This is built into the oracle of `tests/differential`, which has pdb's code; `bench/run` builds and
+//! runs it.
 //!
-//! Both have the file in memory. Ours answers into stores that are lent to it and cleared before
-//! each run. What pdb makes anew for an answer is made, and dropped, in its time.
+//! Both have the file in memory. Ours answers into lent stores, which are cleared before each run. pdb's
+//! time includes allocating and dropping its answer.
 
 mod cases;
 mod inputs;
@@ -14,8 +14,8 @@ use std::io::{self, Write};
 use cases::{cases, Case};
 use timing::{measure, Runs, Stores, REFUSED, RUNS};
 
-const HEAD: &str = "# X and Y are the time of a call, or how many million bytes of the stream or \
-                    of the annotations a second; R is how many times as quick ours is";
+const HEAD: &str = "# X and Y are the time of a call, or million bytes of the stream or of the \
+                    annotations per second; R is how many times as fast ours is";
 
 pub fn run(out: &mut impl Write) -> io::Result<()> {
     let mut stores = Stores::new();
@@ -29,14 +29,11 @@ pub fn run(out: &mut impl Write) -> io::Result<()> {
     for (case, (ours, theirs)) in cases.iter().zip(&runs) {
         write_ratio(out, case, "best ratio", ours.best(), theirs.best())?;
     }
-    writeln!(
-        out,
-        "# Ours: how many times as long as with half as much to do"
-    )?;
+    writeln!(out, "# Ours: how many times as long as with half the work")?;
     write_doublings(out, &cases, &mut stores)
 }
 
-/// Both sides' runs. That they did the same shows in the figures which the calls answer.
+/// Both sides' runs. Checks by the calls' figures that both did the same.
 fn both(case: &Case, stores: &mut Stores) -> (Runs, Runs) {
     let figures = ((case.ours)(stores), (case.theirs)(stores));
     if figures.0 == REFUSED || figures.0 != figures.1 {
@@ -69,8 +66,8 @@ fn write_ratio(
     )
 }
 
-/// The best runs are compared, since they are the least disturbed. Opening has no more to do in a
-/// longer file.
+/// Compares the best runs, since they are the least disturbed. Opening is left out: a longer file is no
+/// more work.
 fn write_doublings(out: &mut impl Write, whole: &[Case], stores: &mut Stores) -> io::Result<()> {
     for (half, whole) in cases(1).iter().zip(whole).skip(1) {
         let runs = measure(&[&*half.ours, &*whole.ours], stores);

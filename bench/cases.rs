@@ -1,4 +1,4 @@
-//! What is measured, and what each side does for it.
+//! The cases that are measured, and what each side does.
 
 use std::cell::RefCell;
 use std::io::{self, Cursor};
@@ -18,13 +18,13 @@ use crate::FallibleIterator;
 
 pub struct Case {
     pub name: &'static str,
-    /// How many bytes go through a call, where that is what counts.
+    /// The number of bytes a call processes, if throughput is measured.
     pub bytes: Option<usize>,
     pub ours: Box<Call>,
     pub theirs: Box<Call>,
 }
 
-/// The cases, with so many halves of the work. Opening is the first.
+/// The cases, with `halves` halves of the work. Opening is the first.
 pub fn cases(halves: usize) -> Vec<Case> {
     let length = LONGEST_STREAM / 2 * halves;
     let long = in_long_slices(length);
@@ -44,7 +44,7 @@ pub fn cases(halves: usize) -> Vec<Case> {
     ]
 }
 
-/// Ours reads the header in place; pdb a copy of the header block, and keeps what the header says.
+/// Ours reads the header in place. pdb reads a copy of the header block and keeps the header.
 fn opening(file: &'static [u8]) -> Case {
     Case {
         name: "open",
@@ -54,14 +54,14 @@ fn opening(file: &'static [u8]) -> Case {
     }
 }
 
-#[inline(never)] // so that what it makes is made, though it is dropped at once
+#[inline(never)] // so that the value is made, though it is dropped at once
 fn opened(file: &'static [u8]) -> Option<Box<dyn Msf<'static, Cursor<&'static [u8]>>>> {
     open_msf(Cursor::new(file)).ok()
 }
 
-/// From the file to the stream's slices, in two stores or in a vector: each side opens the file,
-/// finds the directory and the stream in it, and judges its pages. pdb reads copies of the location
-/// list and of the directory.
+/// From the file to the stream's slices, in two stores or in a vector. Each side opens the file, finds the
+/// directory and the stream in it, and checks its page numbers. pdb reads copies of the location list and
+/// of the directory.
 fn mapping(name: &'static str, file: &'static [u8], stream: u32) -> Case {
     Case {
         name,
@@ -85,8 +85,8 @@ fn mapping(name: &'static str, file: &'static [u8], stream: u32) -> Case {
     }
 }
 
-/// From the file to the stream's bytes: ours copies them into a lent store, pdb into a vector that
-/// it makes, fills with zeros and then reads the slices into, by its own source over a `Cursor`.
+/// From the file to the stream's bytes. Ours copies them into a lent store. pdb allocates a vector, fills
+/// it with zeros and reads the slices into it, by its own source over a `Cursor`.
 fn extraction(file: &'static [u8], length: usize) -> Case {
     Case {
         name: "extract",
@@ -108,7 +108,7 @@ fn figure(stream: &[u8]) -> u64 {
     stream.len() as u64 + bytes.sum::<u64>()
 }
 
-/// Step after step to the end, each looked at: ours from place to place, pdb by its iterator.
+/// Step after step to the end, each used: ours from place to place, pdb by its iterator.
 fn steps(bytes: &'static [u8]) -> Case {
     Case {
         name: "step",
@@ -145,8 +145,8 @@ fn entries(step: Step) -> Option<[i64; 3]> {
     }
 }
 
-/// All annotations into a lent store, three entries each. Ours writes nothing before it has judged
-/// all; pdb has no such function, and its side writes each annotation as its iterator comes to it.
+/// All annotations into a lent store, three entries each. Ours writes nothing before it has checked all.
+/// pdb has no such function; its side writes each annotation as the iterator reaches it.
 fn decoding(bytes: &'static [u8]) -> Case {
     Case {
         name: "decode",
@@ -169,8 +169,8 @@ fn written(bytes: &'static [u8], stores: &mut Stores) -> u64 {
     count
 }
 
-/// pdb's own source over a `Cursor`, but that a stream is not read: its slices are kept, and the
-/// view is of as many other bytes of the file.
+/// pdb's own source over a `Cursor`, except that a stream is not read: its slices are kept, and the view
+/// is of as many other bytes of the file.
 #[derive(Debug)]
 struct Unread {
     file: Cursor<&'static [u8]>,
@@ -180,7 +180,7 @@ struct Unread {
 
 impl<'s> Source<'s> for Unread {
     fn view(&mut self, slices: &[SourceSlice]) -> Result<Box<dyn SourceView<'s>>, io::Error> {
-        /// Before it pdb asks for the header block, the location list and the directory.
+        /// The earlier views are the header block, the location list and the directory.
         const STREAM: usize = 4;
         self.views += 1;
         if self.views < STREAM {

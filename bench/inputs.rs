@@ -1,21 +1,20 @@
-//! What is read: containers of 4,096-byte pages, and annotations. They are the same at each run,
-//! and stay in memory to the program's end, since a view that pdb is given may not borrow from
-//! anything shorter.
+//! The inputs: containers of 4,096-byte pages, and annotations. They are the same at each run, and stay in
+//! memory until the program ends, since a view for pdb may not borrow from anything that ends earlier.
 
 use crate::container::{need, stream, Container};
 use crate::random::Random;
 
 pub const PAGE: usize = 4096;
 pub const LONGEST_STREAM: usize = 32 << 20;
-/// Of 1 MiB: an annotation takes two bytes or more.
+/// In 1 MiB, since an annotation takes at least two bytes.
 pub const MOST_ANNOTATIONS: usize = (1 << 20) / 2;
 
 const SEED: u64 = 1;
 
-/// How many pages a long slice has: 1 MiB.
+/// The number of pages in a long slice, of 1 MiB.
 const LONG: u32 = 256;
 
-/// A container whose only stream has so many bytes, in slices of 1 MiB, the last of them first.
+/// A container whose only stream has `size` bytes, in slices of 1 MiB, the last of them first.
 pub fn in_long_slices(size: usize) -> &'static [u8] {
     container(&[size], |i, pages| {
         (pages / LONG - 1 - i / LONG) * LONG + i % LONG
@@ -27,13 +26,13 @@ pub fn in_single_pages(size: usize) -> &'static [u8] {
     container(&[size], |i, pages| pages - 1 - i)
 }
 
-/// So many streams, of two pages each.
+/// A container of `count` streams, of two pages each.
 pub fn of_streams(count: usize) -> &'static [u8] {
     container(&vec![PAGE + PAGE / 2; count], |i, _| i)
 }
 
-/// Streams of these sizes. Their pages follow those of the directory; entry i of so many page
-/// entries has the page that `order` says.
+/// A container with streams of these sizes. Their pages follow those of the directory. `order` gives the
+/// page of entry i of the page entries.
 fn container(sizes: &[usize], order: fn(u32, u32) -> u32) -> &'static [u8] {
     let count: usize = sizes.iter().map(|&size| need(size, PAGE)).sum();
     let directory = need(4 * (1 + sizes.len() + count), PAGE) as u32;
@@ -61,8 +60,8 @@ fn container(sizes: &[usize], order: fn(u32, u32) -> u32) -> &'static [u8] {
     Box::leak(container.file(&mut Random::new(SEED)).into_boxed_slice())
 }
 
-/// So many bytes of annotations with operands of every form, most of them short, and zeros after
-/// the last.
+/// `length` bytes of annotations with operands of every form, most of them short, and zeros after the
+/// last.
 pub fn annotations(length: usize) -> &'static [u8] {
     /// Opcode 12 has two operands.
     const LONGEST: usize = 1 + 2 * 4;

@@ -1,4 +1,4 @@
-//! How long calls take.
+//! Measures how long calls take.
 
 use std::time::Instant;
 
@@ -6,13 +6,13 @@ use super::inputs::{LONGEST_STREAM, MOST_ANNOTATIONS, PAGE};
 
 pub const RUNS: usize = 9;
 
-/// The figure of a call that is refused.
+/// The figure of a refused call.
 pub const REFUSED: u64 = 0;
 
-/// A run is of so many calls that it takes this long or longer.
+/// A run has enough calls to take at least this long.
 const SECONDS_A_RUN: f64 = 0.05;
 
-/// What is lent, and takes the answers.
+/// The stores that are lent for the answers.
 pub struct Stores {
     pub offsets: Vec<u64>,
     pub sizes: Vec<u64>,
@@ -20,8 +20,8 @@ pub struct Stores {
     pub entries: Vec<i64>,
 }
 
-/// A call answers a figure, which both sides of a case have in common. The compiler does not see
-/// which call it is, so it leaves out nothing of it.
+/// A call returns a figure that is the same for both sides of a case. The compiler cannot see which call
+/// it is, so it optimises nothing away.
 pub type Call = dyn Fn(&mut Stores) -> u64;
 
 impl Stores {
@@ -42,7 +42,7 @@ impl Stores {
     }
 }
 
-/// The seconds a call of each run, from the shortest to the longest.
+/// The seconds per call of each run, from the shortest to the longest.
 pub struct Runs(Vec<f64>);
 
 impl Runs {
@@ -55,7 +55,7 @@ impl Runs {
     }
 }
 
-/// The runs of each call. They take turns, so that what slows the machine for a while slows all.
+/// The runs of each call. The calls take turns, so that what slows the machine for a while slows all.
 pub fn measure(calls: &[&Call], stores: &mut Stores) -> Vec<Runs> {
     let counts: Vec<u32> = calls.iter().map(|&call| count(call, stores)).collect();
     let mut runs: Vec<Vec<f64>> = calls.iter().map(|_| Vec::new()).collect();
@@ -72,7 +72,7 @@ fn sorted(mut runs: Vec<f64>) -> Runs {
     Runs(runs)
 }
 
-/// How many calls a run is of.
+/// The number of calls in a run.
 fn count(call: &Call, stores: &mut Stores) -> u32 {
     let mut count = 1;
     while run(call, count, stores) < SECONDS_A_RUN {
@@ -81,7 +81,7 @@ fn count(call: &Call, stores: &mut Stores) -> u32 {
     count
 }
 
-/// The seconds of so many calls, into cleared stores.
+/// The seconds of `count` calls, into cleared stores.
 #[inline(never)]
 fn run(call: &Call, count: u32, stores: &mut Stores) -> f64 {
     stores.clear();

@@ -1,4 +1,4 @@
-//! Our library and pdb asked the same, in one process, and their answers compared word by word.
+//! Asks our library and pdb the same questions, in one process, and compares the answers word by word.
 
 use std::fmt::Display;
 use std::io::{self, Write};
@@ -10,7 +10,7 @@ type Answer<P> = Vec<(P, Vec<Word>)>;
 
 /// Which questions are compared, and how many have been.
 pub struct Comparison {
-    /// The record of which our answer is made wrong, to see that it shows.
+    /// The record whose answer from our library is made wrong, to check that this is found.
     altered: Option<usize>,
     questions: usize,
 }
@@ -23,8 +23,8 @@ impl Comparison {
         }
     }
 
-    /// Compares both answers to a question of a record. The first difference is printed, with the
-    /// question, and ends the program. A question that has no answer is not counted.
+    /// Compares both answers to a question of a record. Prints the first difference, with the question,
+    /// and ends the program. A question without an answer is not counted.
     pub fn compare<P: Display + PartialEq>(
         &mut self,
         record: usize,
@@ -45,7 +45,7 @@ impl Comparison {
         }
     }
 
-    /// Says how many questions were compared.
+    /// Prints how many questions were compared.
     pub fn report(&self, out: &mut impl Write) -> io::Result<()> {
         writeln!(out, "questions {}\ndiffer 0", self.questions)
     }
@@ -61,7 +61,7 @@ fn alter<P>(answer: &mut Answer<P>) {
     }
 }
 
-/// The first part in which the answers differ, of both, and its first word that differs.
+/// The first part in which the answers differ, from both, and the index of its first word that differs.
 fn difference<P: Display + PartialEq>(ours: &Answer<P>, theirs: &Answer<P>) -> String {
     let part = same(ours, theirs);
     let word = match (ours.get(part), theirs.get(part)) {
@@ -80,7 +80,7 @@ fn difference<P: Display + PartialEq>(ours: &Answer<P>, theirs: &Answer<P>) -> S
     )
 }
 
-/// The words of a part around one of them, since there may be very many.
+/// The words of a part around one of them, since a part may be very long.
 fn around(words: &[Word], word: usize) -> String {
     const SHOWN: usize = 1000;
     let from = word.saturating_sub(SHOWN);
@@ -90,7 +90,7 @@ fn around(words: &[Word], word: usize) -> String {
     format!("{}{}{}", dots(from > 0), shown, dots(to < words.len()))
 }
 
-/// How long two lists are the same.
+/// The length of the common prefix of two lists.
 fn same<T: PartialEq>(ours: &[T], theirs: &[T]) -> usize {
     ours.iter().zip(theirs).take_while(|(a, b)| a == b).count()
 }

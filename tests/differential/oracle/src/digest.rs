@@ -1,17 +1,17 @@
-//! The digest of a record's answers: two lanes, so that two wrong answers hardly ever cancel out.
+//! The digest of a record's answers: two lanes, so that two wrong answers are unlikely to cancel out.
 
 /// One word of an answer.
 #[derive(Clone, Copy, Debug, Eq, PartialEq)]
 pub enum Word {
-    /// A count, a place, a number of a case: as it is.
+    /// A count, a place or the number of a case, unchanged.
     Plain(u64),
-    /// A number of an annotation or of a store: its sign, and then its distance from 0 or from -1.
+    /// A number of an annotation or of a store: its sign, then its distance from 0 or from -1.
     Signed(i64),
     /// A byte of a store: one half.
     Byte(u8),
 }
 
-/// The words of an answer, for a reader.
+/// The words of an answer as text.
 pub fn text(words: &[Word]) -> String {
     let words: Vec<String> = words
         .iter()
@@ -24,7 +24,7 @@ pub fn text(words: &[Word]) -> String {
     words.join(" ")
 }
 
-/// The largest prime below 2^32: a lane fits in 32 bits and a product with it in 64.
+/// The largest prime below 2^32. A lane fits in 32 bits, and a product with it in 64.
 const PRIME: u64 = 4_294_967_291;
 
 #[derive(Clone, Copy, Debug, Default, Eq, PartialEq)]

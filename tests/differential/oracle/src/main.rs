@@ -1,34 +1,34 @@
-//! The Rust's side of the differential tests: asks pdb 0.8.0 and writes its answers as a list.
+//! The Rust side of the differential tests: asks pdb 0.8.0 and writes its answers as a list.
 //!
 //!     oracle record           the fixed list, the same at each run
 //!     oracle live SEED COUNT  COUNT random byte strings
 //!     oracle show N           reads a list, and prints record N with the Rust's answers
 //!     oracle alter N          reads a list, and writes it with one wrong answer, at record N
 //!
-//! These ask about binary annotations. record-msf, live-msf, show-msf and alter-msf do the same for
-//! containers; there COUNT is of random containers, of which each is asked several questions. The
-//! same with -buffer is about the reads of a parse buffer.
+//! These are about binary annotations. record-msf, live-msf, show-msf and alter-msf are about
+//! containers: COUNT is the number of random containers, with several questions about each. The same
+//! words with -buffer are about the reads of a parse buffer.
 //!
 //!     oracle isolation-msf SEED COUNT  COUNT pairs of containers that agree on what a stream's
-//!                                      answers depend on, of which pdb must answer the same
+//!                                      answers depend on, for which pdb must answer the same
 //!     oracle file-msf NAME             a file that the tests of the listing program use
 //!     oracle listing-msf               reads a file, and prints the listing that pdb's answers make
 //!
 //! With the feature `ours` our library is asked too, through the crate `trovespan`:
 //!
-//!     oracle compare SUBJECT SEED COUNT  compares our answers with pdb's to the questions of that live
+//!     oracle compare SUBJECT SEED COUNT  compares our answers with pdb's on the questions of that live
 //!                                        list. SUBJECT is annotations, msf or isolation
-//!     oracle compare SUBJECT             the same of the fixed list, which isolation has not
-//!     oracle compare SUBJECT large       the same of strings, or files, that no list has room for:
-//!                                        their places, counts and sizes pass 16, 24 and 32 bits
+//!     oracle compare SUBJECT             the same on the fixed list, which isolation does not have
+//!     oracle compare SUBJECT large       the same on strings, or files, too large for a list: their
+//!                                        places, counts and sizes exceed 16, 24 and 32 bits
 //!     oracle compare-altered N ..        the same, with our answer to record N made wrong
-//!     oracle bench                       how long both take (`bench/run`)
+//!     oracle bench                       measures both (`bench/run`)
 
 use std::io::{self, BufWriter, Read, Write};
 
 use fallible_iterator::FallibleIterator;
 
-// The sources of pdb, as the build copies them. They name each other from the crate's root.
+// The sources of pdb, as the build copies them. They refer to each other from the crate's root.
 #[allow(warnings)]
 #[path = "../pdb/src/common.rs"]
 mod common;
@@ -49,7 +49,7 @@ mod tpi {
     pub mod constants;
 }
 
-// Our own.
+// Our own modules.
 mod annotations;
 #[cfg(feature = "ours")]
 #[path = "../../../../bench/bench.rs"]
@@ -72,7 +72,7 @@ fn main() {
     let words: Vec<String> = std::env::args().skip(1).collect();
     let words: Vec<&str> = words.iter().map(String::as_str).collect();
     if answer(&words, &mut BufWriter::new(io::stdout())).is_err() {
-        // A reader that has seen enough may close the pipe.
+        // The reader may close the pipe early.
         std::process::exit(1);
     }
 }
@@ -156,7 +156,7 @@ fn read() -> Vec<u8> {
     }
 }
 
-/// Ends the program with one line that says why.
+/// Ends the program and prints one line that says why.
 pub fn stop(why: &str) -> ! {
     eprintln!("oracle: {}", why);
     std::process::exit(1)

@@ -22,7 +22,7 @@ impl Random {
         (self.next() % end as u64) as usize
     }
 
-    /// True once in `n` times.
+    /// True once in `n` times, on average.
     pub fn one_in(&mut self, n: usize) -> bool {
         self.below(n) == 0
     }

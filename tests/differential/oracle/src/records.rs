@@ -1,15 +1,15 @@
-//! The records of a list, one after the other, each a header and then a body: where record `n` is,
-//! the digest in it, and the list with a wrong answer. All numbers are little-endian.
+//! The records of a list: where record `n` is, its digest, and the list with a wrong answer. A record is
+//! a header and then a body. All numbers are little-endian.
 
 use crate::digest::Digest;
 
 /// How the records of a list are laid out.
 pub struct Layout {
-    /// How many bytes a header has.
+    /// The length of a header.
     pub header: usize,
-    /// Where a header has the digest: lane a, then lane b.
+    /// Where the digest is in a header: lane a, then lane b.
     pub lanes: usize,
-    /// How many bytes follow a header.
+    /// The length of the body after a header.
     pub body: fn(&[u8]) -> usize,
 }
 
@@ -20,7 +20,7 @@ impl Layout {
         &list[at..self.after(list, at)]
     }
 
-    /// The digest that stands in a record.
+    /// The digest in a record.
     pub fn digest(&self, record: &[u8]) -> Digest {
         Digest {
             a: number(&record[self.lanes..][..4]) as u32,
@@ -28,7 +28,7 @@ impl Layout {
         }
     }
 
-    /// The list with one bit of record `n`'s digest turned round.
+    /// The list with one bit of record `n`'s digest flipped.
     pub fn altered(&self, list: &[u8], n: usize) -> Vec<u8> {
         let mut altered = list.to_vec();
         altered[self.place(list, n) + self.lanes] ^= 1;
@@ -57,7 +57,7 @@ impl Layout {
     }
 }
 
-/// The number that some bytes hold.
+/// The number in these bytes.
 pub fn number(bytes: &[u8]) -> u64 {
     bytes.iter().rev().fold(0, |n, &b| n * 256 + u64::from(b))
 }

@@ -1,11 +1,11 @@
-//! What a library answers, put into words as the project's rules number them. Each answer is a list
-//! of words that begins with the number of its case.
+//! The answers of a library, as words, by the numbers of the project's rules. Each answer is a list of
+//! words that begins with the number of its case.
 
 use std::fmt;
 
 use crate::digest::Word::{self, Plain, Signed};
 
-// The cases. The first number stands before each answer, so that no two answers share their words.
+// The cases. Each answer begins with its case, so that no two answers have the same words.
 const NUMBER: u64 = 1;
 const NUMBER_REFUSED: u64 = 2;
 const ANNOTATION: u64 = 3;
@@ -15,26 +15,25 @@ const ALL_DECODED: u64 = 6;
 const ALL_REFUSED: u64 = 7;
 const NO_ROOM: u64 = 8;
 
-/// A refusal's number, and its value.
+/// A refusal's number and value.
 pub type Refusal = (u64, u64);
 
-/// A library that is asked: pdb, or ours.
+/// A library that is asked: pdb or ours.
 pub trait Library {
     /// The number at a place, and the place after it.
     fn number(bytes: &[u8], at: usize) -> (Result<u32, Refusal>, usize);
 
-    /// The steps from a place on, each with the place after it, going on after refusals. The end is
-    /// the last one.
+    /// The steps from a place to the end, each with the place after it, going on after refusals.
     fn steps(bytes: &[u8], at: usize) -> Vec<(Step, usize)>;
 
-    /// All of the bytes decoded into a store: how many annotations, or a refusal and the place after
-    /// it. The refusal of too small a store has no place.
+    /// Decodes all bytes into a store: the number of annotations, or a refusal and the place after it.
+    /// The refusal for a store that is too small has no place.
     fn decode(bytes: &[u8], store: &mut [i64]) -> Result<usize, (Refusal, Option<usize>)>;
 }
 
 pub enum Step {
-    /// Opcode, first operand, second operand or 0; and whether it emits a line record, where the
-    /// library says so.
+    /// Opcode, first operand, second operand or 0; and whether it emits a line record, if the library
+    /// says so.
     Annotation([i64; 3], Option<bool>),
     End,
     Refused(Refusal),
@@ -47,7 +46,7 @@ pub enum Part {
     Step,
     /// Whether the step before it emits a line record.
     Emits,
-    /// All of the bytes decoded into a store of so many entries, and the whole store after it.
+    /// Decoding all bytes into a store of that many entries, and the whole store after it.
     Room(usize),
 }
 
@@ -95,7 +94,7 @@ pub fn steps<L: Library>(bytes: &[u8], at: usize, answer: &mut Answer) {
     }
 }
 
-/// All of the bytes decoded into a store of so many entries, and then the whole store.
+/// Decodes all bytes into a store of `room` entries; then the whole store.
 pub fn decode<L: Library>(bytes: &[u8], room: usize, answer: &mut Answer) {
     let mut store: Vec<i64> = (0..room as i64).map(|i| -1000 - i).collect();
     let mut words = match L::decode(bytes, &mut store) {

@@ -12,7 +12,7 @@ pub fn compare(questions: impl Iterator<Item = Question>, comparison: &mut Compa
         for bytes in question.strings() {
             let ours = question.answer::<Ours>(&bytes);
             let mut theirs = question.answer::<Pdb>(&bytes);
-            // Our crate does not say it.
+            // Our crate does not say whether a step emits.
             theirs.retain(|(part, _)| *part != Part::Emits);
             comparison.compare(n, ours, theirs, || {
                 format!("{}\n{}\n", asked(&question), hex(&bytes))

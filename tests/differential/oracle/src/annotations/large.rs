@@ -1,5 +1,5 @@
 //! Strings too long for a list, whose places, counts and entries take more than 16, 24 and 32 bits.
-//! They are asked through the crate alone.
+//! They are asked about through the crate alone.
 
 use super::list::Question;
 use super::pdb::needed;
@@ -8,8 +8,8 @@ use crate::random::Random;
 
 const SEED: u64 = 0x6c61_7267;
 
-/// What may follow a sound program: nothing, the largest opcode, a number of no form as an opcode and
-/// as an operand, a number that is cut, and an end.
+/// What may follow a sound program: nothing, the largest opcode, an invalid number as an opcode and as
+/// an operand, a number that is cut short, and an end.
 const TAILS: [&[u8]; 6] = [
     &[],
     &[0xdf, 0xff, 0xff, 0xff],
@@ -57,7 +57,7 @@ fn over_16_bits(program: Vec<u8>) -> impl Iterator<Item = Question> {
     })
 }
 
-/// Over 65,536 annotations, in stores of one entry too few, of enough and of one more, and in none.
+/// Over 65,536 annotations, in stores of one entry too few, just enough, one more, and none.
 fn many_annotations() -> impl Iterator<Item = Question> {
     let count = BITS_17 + 5;
     let rooms = vec![(3 * count - 1, 3 * count + 1), (0, 0)];
@@ -70,7 +70,7 @@ fn many_annotations() -> impl Iterator<Item = Question> {
     })
 }
 
-/// A program over 16 MiB, with each tail. There is no room for it, so what it needs is asked for.
+/// A program over 16 MiB, with each tail. The store is empty, so a complete answer is refused with the room needed.
 fn over_24_bits() -> impl Iterator<Item = Question> {
     TAILS.iter().map(|tail| {
         let annotations = BITS_25 / LONGEST_ANNOTATION.len() + 10;
@@ -85,8 +85,8 @@ fn over_24_bits() -> impl Iterator<Item = Question> {
     })
 }
 
-/// Over 4 GiB: an annotation, zeros, and across 4 GiB a program with each tail, asked from its start on.
-/// Its first number ends past 4 GiB. Zeros that nothing touches take no memory.
+/// Over 4 GiB: an annotation, zeros, and across 4 GiB a program with each tail, asked about from its
+/// start on. Its first number ends past 4 GiB. Zeros that nothing touches take no memory.
 fn over_32_bits(program: Vec<u8>) -> impl Iterator<Item = Question> {
     TAILS.iter().map(move |tail| {
         let program = [&LONGEST_ANNOTATION, &program[program.len() - 1000..], *tail].concat();

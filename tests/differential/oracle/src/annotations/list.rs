@@ -1,6 +1,6 @@
-//! A list: questions and the digests of their answers, record after record.
+//! A list: questions and the digests of their answers, as a sequence of records.
 //!
-//! A record is a header of 20 bytes, all numbers little-endian, and then the question's bytes:
+//! A record is a header of 20 bytes, with little-endian numbers, and then the question's bytes:
 //! length u16, place u16, lowest room u16, highest room u16, sweep u8, three zeros, lane a u32,
 //! lane b u32.
 
@@ -21,8 +21,8 @@ pub const LAYOUT: Layout = Layout {
     body: |header| number(&header[..2]) as usize,
 };
 
-/// One question: the number and the steps at a place, and all of the bytes decoded into stores of
-/// each room from `low` to `high`. A sweep asks it 256 times, once for each value of the last byte.
+/// One question: the number and the steps at a place, and decoding all bytes into stores of each room
+/// from `low` to `high`. A sweep asks it 256 times, once for each value of the last byte.
 #[derive(Clone, Debug)]
 pub struct Question {
     pub bytes: Vec<u8>,
@@ -33,7 +33,7 @@ pub struct Question {
 }
 
 impl Question {
-    /// The strings that the question asks of.
+    /// The strings that the question is about.
     pub fn strings(&self) -> Vec<Cow<'_, [u8]>> {
         if !self.sweep {
             return vec![Cow::Borrowed(&self.bytes)];
@@ -43,7 +43,7 @@ impl Question {
         (0..=255).map(swept).collect()
     }
 
-    /// What a library answers of one of the strings.
+    /// A library's answers about one of the strings.
     pub fn answer<L: Library>(&self, bytes: &[u8]) -> Answer {
         let mut answer = Answer::new();
         answers::number::<L>(bytes, self.at, &mut answer);
@@ -54,7 +54,7 @@ impl Question {
         answer
     }
 
-    /// The digest of all that pdb answers.
+    /// The digest of all of pdb's answers.
     pub fn digest(&self) -> Digest {
         let mut digest = Digest::default();
         for bytes in self.strings() {

@@ -1,4 +1,4 @@
-//! What our library answers, through the crate `trovespan`.
+//! Our library's answers, through the crate `trovespan`.
 
 use super::answers::{Library, Refusal, Step};
 
@@ -13,7 +13,7 @@ impl Library for Ours {
     fn steps(bytes: &[u8], at: usize) -> Vec<(Step, usize)> {
         let mut steps = Vec::new();
         let mut place = at;
-        // Each step but the end takes a byte. If one did not, this would stop all the same.
+        // Each step before the end takes at least a byte. The bound ends the loop even if one did not.
         while steps.len() <= bytes.len() {
             let (step, next) = trovespan::step(bytes, place);
             let end = step == trovespan::Step::End;

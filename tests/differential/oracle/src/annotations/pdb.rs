@@ -1,4 +1,4 @@
-//! What pdb answers, by the numbers of the project's rules.
+//! pdb's answers, by the numbers of the project's rules.
 
 use super::answers::{Library, Refusal, Step};
 use crate::common::Error;
@@ -39,8 +39,8 @@ impl Library for Pdb {
         }
     }
 
-    /// pdb has no such function; it is its iterator, run from the start, and the rules' own refusal
-    /// of too small a store.
+    /// pdb has no such function. This is its iterator, run from the start, and the rules' own refusal for
+    /// a store that is too small.
     fn decode(bytes: &[u8], store: &mut [i64]) -> Result<usize, (Refusal, Option<usize>)> {
         let entries = entries(bytes).map_err(|(refusal, place)| (refusal, Some(place)))?;
         match store.get_mut(..entries.len()) {
@@ -62,14 +62,14 @@ fn entries(bytes: &[u8]) -> Result<Vec<i64>, (Refusal, usize)> {
     }
 }
 
-/// How many store entries the annotations take, up to the end or the first refusal.
+/// The number of store entries that the annotations take, up to the end or the first refusal.
 pub fn needed(bytes: &[u8]) -> usize {
     let mut needed = 0;
     each(bytes, |annotation| needed += annotation.len());
     needed
 }
 
-/// Hands on each annotation, up to the end or up to the first refusal.
+/// Passes on each annotation, up to the end or the first refusal.
 fn each(bytes: &[u8], mut take: impl FnMut([i64; 3])) -> Option<(Refusal, usize)> {
     let mut iter = iter_at(bytes, 0);
     loop {
@@ -99,7 +99,7 @@ fn refusal(error: &Error) -> Refusal {
     }
 }
 
-/// An annotation as a store holds it: opcode, first operand, second operand or 0.
+/// An annotation's entries in a store: opcode, first operand, second operand or 0.
 pub fn triple(annotation: BinaryAnnotation) -> [i64; 3] {
     use BinaryAnnotation::*;
     match annotation {

@@ -1,4 +1,4 @@
-//! Byte strings to ask about: made like annotation programs, damaged, or of random bytes.
+//! Byte strings to ask about: annotation programs, damaged ones, or random bytes.
 
 use crate::random::Random;
 
@@ -8,7 +8,7 @@ const BOUNDARIES: [u32; 20] = [
     0x1ffffffe, 0x1fffffff,
 ];
 
-/// How many bytes the forms of a number take, and the first number that each cannot hold.
+/// The lengths of the forms of a number, and the first number that each cannot hold.
 const FORMS: [(usize, u32); 3] = [(1, 0x80), (2, 0x4000), (4, 0x2000_0000)];
 
 /// A program of at least `length` bytes unless it is cut off: annotations with operands of every
@@ -66,7 +66,7 @@ fn annotation(random: &mut Random, program: &mut Vec<u8>) {
     }
 }
 
-/// How many operands an annotation has.
+/// The number of operands of an annotation.
 fn operands(opcode: u32) -> usize {
     if opcode == 12 {
         2
@@ -84,7 +84,7 @@ fn operand(random: &mut Random) -> u32 {
     }
 }
 
-/// Writes a number in one of its forms. Now and then a first byte of no form stands in its place.
+/// Writes a number in one of its forms, or sometimes an invalid first byte instead.
 fn number(random: &mut Random, value: u32, long: usize, program: &mut Vec<u8>) {
     if random.one_in(200) {
         program.push(0xe0 + random.below(32) as u8);
@@ -93,7 +93,7 @@ fn number(random: &mut Random, value: u32, long: usize, program: &mut Vec<u8>) {
     }
 }
 
-/// Writes a number: in its shortest form, or once in `long` times in a longer one.
+/// Writes a number in its shortest form, or once in `long` times in a longer one.
 fn in_a_form(random: &mut Random, value: u32, long: usize, program: &mut Vec<u8>) {
     let mut forms = FORMS
         .iter()
@@ -114,7 +114,7 @@ fn in_a_form(random: &mut Random, value: u32, long: usize, program: &mut Vec<u8>
     program.extend_from_slice(&(value | mark).to_be_bytes()[4 - length..]);
 }
 
-/// Turns a bit, drops a byte, inserts one, or cuts the end off.
+/// Flips a bit, drops a byte, inserts one, or cuts the end off.
 fn mutate(random: &mut Random, bytes: &mut Vec<u8>) {
     let at = random.below(bytes.len() + 1);
     match random.below(4) {

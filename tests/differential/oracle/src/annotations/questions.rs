@@ -1,4 +1,4 @@
-//! Which questions a list asks: the fixed list, and a live one of any seed and length.
+//! The questions of the fixed list, and of a live list of any seed and length.
 
 use super::list::{Question, LARGEST_ROOM, LONGEST};
 use super::pdb::needed;
@@ -34,7 +34,7 @@ const NAMED: [&[u8]; 12] = [
     &[0x00, 0x03, 0x05],
 ];
 
-/// Bytes at the ends of the forms' first bytes, and opcodes of each kind.
+/// First bytes at the ends of each form's range, and opcodes of each kind.
 const BOUNDARY: [u8; 14] = [
     0x00, 0x01, 0x06, 0x0b, 0x0c, 0x0d, 0x0e, 0x7f, 0x80, 0xbf, 0xc0, 0xdf, 0xe0, 0xff,
 ];
@@ -68,7 +68,7 @@ pub fn fixed() -> Vec<Question> {
     questions
 }
 
-/// Questions about `count` random strings, made one string at a time, so that a list may be long.
+/// Questions about `count` random strings, made one at a time, so that a list can be long.
 pub fn live(seed: u64, count: u64) -> impl Iterator<Item = Question> {
     let mut random = Random::new(seed);
     (0..count).flat_map(move |_| {
@@ -140,7 +140,7 @@ fn boundary_strings(length: usize) -> Vec<Vec<u8>> {
     strings
 }
 
-/// Strings of the largest length: the most annotations that there can be, and none.
+/// Strings of the largest length: as many annotations as possible, and none.
 fn ask_longest(random: &mut Random, questions: &mut Vec<Question>) {
     for &byte in &[0x01, 0x00, 0xff] {
         ask(vec![byte; LONGEST], random, questions);
@@ -162,7 +162,7 @@ fn ask(bytes: Vec<u8>, random: &mut Random, questions: &mut Vec<Question>) {
     questions.push(question);
 }
 
-/// Rooms one too small, just enough and one larger.
+/// Rooms one entry too small, just enough, and one entry larger.
 fn around_needed(bytes: Vec<u8>, at: usize) -> Question {
     let needed = needed(&bytes);
     Question {

@@ -1,8 +1,8 @@
 //! The inputs of `docs/RULES.md` about binary annotations, row by row.
 //!
-//! A question asks for the number and the steps at its place and decodes the bytes with each room
-//! that a row names, so one question is enough where a row names several of these. R1 to R9, R14,
-//! R15 and R19 to R45 are about containers, R60 about reads (`buffer/rules.rs`).
+//! A question asks for the number and the steps at its place, and decodes the bytes with each room of
+//! the row, so one question is enough for a row that names several of these. R1 to R9, R14, R15 and
+//! R19 to R45 are about containers, R60 about reads (`buffer/rules.rs`).
 
 use super::list::Question;
 
@@ -87,7 +87,7 @@ fn annotations() -> Vec<Question> {
         start(&[0x0b, 0x1f]),
         start(&[0x0b, 0x20]),
         start(&[0x0b, 0x30]),
-        // R52. What its type keeps apart no input shows.
+        // R52. No input shows what its type keeps apart.
         start(&[0x05, 0x07]),
     ]);
     questions

@@ -1,4 +1,4 @@
-//! A record and pdb's answers as text, for a reader who looks into a difference.
+//! A record and pdb's answers as text, to look into a difference.
 
 use std::fmt::Write;
 
@@ -21,7 +21,7 @@ pub fn record(list: &[u8], n: usize) -> String {
     text
 }
 
-/// What is asked, but for the bytes.
+/// The question, without its bytes.
 pub fn asked(question: &Question) -> String {
     format!(
         "{} bytes, place {}, rooms {} to {}{}",
@@ -33,7 +33,7 @@ pub fn asked(question: &Question) -> String {
     )
 }
 
-/// The bytes, as many as a list's question has.
+/// The bytes, at most as many as a question of a list has.
 pub fn hex(bytes: &[u8]) -> String {
     let shown = bytes.iter().take(LONGEST);
     let hex: Vec<String> = shown.map(|b| format!("{:02x}", b)).collect();

@@ -1,5 +1,5 @@
-//! What pdb's `ParseBuffer` answers, put into words. Each answer is a list of words that begins with
-//! the number of its case.
+//! The answers of pdb's `ParseBuffer`, as words. Each answer is a list of words that begins with the
+//! number of its case.
 
 use crate::common::{Error, ParseBuffer};
 use crate::digest::Word::{self, Byte, Plain};
@@ -26,8 +26,8 @@ pub fn parse_u32(bytes: &[u8], at: usize) -> Answer {
     }
 }
 
-/// The `n` bytes from a place on: where in the whole they begin, how many they are, and each of
-/// them. Where they are not there pdb refuses and there is no byte.
+/// The `n` bytes from a place on: where in the whole they begin, how many there are, and each of
+/// them. If they are not there, pdb refuses and there is no byte.
 pub fn take(bytes: &[u8], at: usize, n: usize) -> Answer {
     match buffer_at(bytes, at).take(n) {
         Ok(part) => {
@@ -49,7 +49,7 @@ fn buffer_at(bytes: &[u8], at: usize) -> ParseBuffer<'_> {
     buffer
 }
 
-/// Refusal 7, which is the only one here.
+/// Refusal 7, the only one here.
 fn short_data(error: &Error) -> u64 {
     match error {
         Error::UnexpectedEof | Error::ScrollError(_) => SHORT_DATA,

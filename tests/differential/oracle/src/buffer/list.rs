@@ -1,6 +1,6 @@
-//! A list: questions and the digests of their answers, record after record.
+//! A list: questions and the digests of their answers, as a sequence of records.
 //!
-//! A record is a header of 18 bytes, all numbers little-endian, and then the question's bytes:
+//! A record is a header of 18 bytes, with little-endian numbers, and then the question's bytes:
 //! length u16, first place u16, last place u16, fewest bytes u16, most bytes u16, lane a u32,
 //! lane b u32.
 
@@ -19,8 +19,8 @@ pub const LAYOUT: Layout = Layout {
     body: |header| number(&header[..2]) as usize,
 };
 
-/// One question: at each place from `first` to `last` the number, and each count of bytes from
-/// `fewest` to `most` taken.
+/// One question: at each place from `first` to `last` the number, and taking each count of bytes from
+/// `fewest` to `most`.
 #[derive(Clone, Debug)]
 pub struct Question {
     pub bytes: Vec<u8>,
@@ -31,7 +31,7 @@ pub struct Question {
 }
 
 impl Question {
-    /// All that pdb answers, each with what was asked.
+    /// All of pdb's answers, each with what was asked.
     pub fn answers(&self) -> Vec<(String, Answer)> {
         let mut all = Vec::new();
         for at in self.first..=self.last {

@@ -1,4 +1,4 @@
-//! Which questions a list asks: the fixed list, and a live one of any seed and length.
+//! The questions of the fixed list, and of a live list of any seed and length.
 
 use super::list::{Question, LONGEST, MOST};
 use super::rules;
@@ -38,7 +38,7 @@ pub fn fixed() -> impl Iterator<Item = Question> {
     questions.into_iter()
 }
 
-/// Questions about `count` random strings, made one at a time, so that a list may be long.
+/// Questions about `count` random strings, made one at a time, so that a list can be long.
 pub fn live(seed: u64, count: u64) -> impl Iterator<Item = Question> {
     let mut random = Random::new(seed);
     (0..count).map(move |_| {
@@ -58,7 +58,7 @@ fn longer(strings: &[Vec<u8>]) -> Vec<Vec<u8>> {
         .collect()
 }
 
-/// A string of up to 48 bytes: a small one everywhere, or any around a place.
+/// A string of up to 48 bytes: a short one at every place, or any at a few places.
 fn short(random: &mut Random) -> Question {
     if random.one_in(8) {
         let bytes = string(random, 10);
@@ -91,7 +91,7 @@ fn everywhere(bytes: Vec<u8>) -> Question {
 }
 
 /// A string at up to three places, with counts around what is left there, or any counts. One place
-/// in four is near the end, where a number begins to be cut.
+/// in four is near the end, where a number is cut short.
 fn around(bytes: Vec<u8>, random: &mut Random) -> Question {
     let length = bytes.len();
     let first = if random.one_in(4) {

@@ -1,4 +1,4 @@
-//! A record and pdb's answers as text, for a reader who looks into a difference.
+//! A record and pdb's answers as text, to look into a difference.
 
 use super::list;
 use crate::digest::text as words;

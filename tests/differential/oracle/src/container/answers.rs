@@ -1,6 +1,6 @@
-//! What a library answers of a container, put into words as the project's rules number them. Each
-//! answer is a list of words that begins with the number of its case. `None` is an answer that cannot
-//! be had.
+//! The answers of a library about a container, as words, by the numbers of the project's rules. Each
+//! answer is a list of words that begins with the number of its case. `None` means that pdb cannot be
+//! asked.
 
 use crate::digest::Word::{self, Byte, Plain};
 
@@ -14,20 +14,20 @@ const MAP_REFUSED: u64 = 16;
 const EXTRACTED: u64 = 17;
 const EXTRACT_REFUSED: u64 = 18;
 
-/// A refusal's number, and its value.
+/// A refusal's number and value.
 pub type Refusal = (u64, u64);
 
 pub type Answer = Vec<Word>;
 
-/// A library that is asked: pdb, or ours.
+/// A library that is asked: pdb or ours.
 pub trait Library {
     /// The page size and the largest page number.
     fn open(file: &[u8]) -> Result<(u64, u64), Refusal>;
 
-    /// How many streams.
+    /// The number of streams.
     fn count(file: &[u8]) -> Option<Result<u64, Refusal>>;
 
-    /// A stream's slices, cut to the limit, in two stores: how many, and their length.
+    /// Maps a stream, cut to the limit, into two stores: the number of slices, and their length.
     fn map(
         file: &[u8],
         stream: u32,
@@ -36,7 +36,7 @@ pub trait Library {
         sizes: &mut [u64],
     ) -> Option<Result<(usize, usize), Refusal>>;
 
-    /// A stream's bytes, cut to the limit, in a store: how many.
+    /// Extracts a stream, cut to the limit, into a store: the number of bytes.
     fn extract(
         file: &[u8],
         stream: u32,
@@ -59,7 +59,7 @@ pub fn count<L: Library>(file: &[u8]) -> Option<Answer> {
     })
 }
 
-/// The stream mapped into stores of so many entries, and then both stores.
+/// Maps the stream into stores of these rooms; then both stores.
 pub fn map<L: Library>(
     file: &[u8],
     stream: u32,
@@ -76,7 +76,7 @@ pub fn map<L: Library>(
     Some(answer)
 }
 
-/// The stream extracted into a store of `room` bytes, and then the store.
+/// Extracts the stream into a store of `room` bytes; then the store.
 pub fn extract<L: Library>(
     file: &[u8],
     stream: u32,
@@ -101,7 +101,7 @@ fn untouched_size(i: usize) -> u64 {
     8_000_000_000_000_000_000 + i as u64
 }
 
-/// So many bytes of a store before it is lent.
+/// The bytes of a store before it is lent.
 pub fn untouched(room: usize) -> Vec<u8> {
     (0..room).map(|i| (i % 251) as u8).collect()
 }

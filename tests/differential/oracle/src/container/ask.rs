@@ -6,7 +6,7 @@ use super::listing::listing;
 use super::pdb;
 use super::question::{Question, Rooms, Run, Start, Sweep, COUNT, EXTRACT, LIST, MAP, OPEN};
 
-/// Stores that take what small streams answer.
+/// Stores that hold the answers of small streams.
 const SMALL_ROOMS: Rooms = Rooms {
     offsets: 4,
     sizes: 4,
@@ -27,7 +27,7 @@ impl About {
         }
     }
 
-    /// Every operation, of the base file as it is and of stream 0. The questions vary this one.
+    /// Every operation on the unchanged base file and stream 0. The other questions vary this one.
     pub fn question(&self) -> Question {
         Question {
             length: self.base.len(),
@@ -59,7 +59,7 @@ impl About {
         self.records.push(Record::Question(question));
     }
 
-    /// The question of each of these streams. The file is opened and counted for the first alone.
+    /// The question for each of these streams. Only the first opens and counts.
     pub fn ask_streams(&mut self, question: Question, streams: &[u32]) {
         for (i, &stream) in streams.iter().enumerate() {
             let operations = if i == 0 {
@@ -75,7 +75,7 @@ impl About {
         }
     }
 
-    /// The question of each of these streams, at every value of a byte.
+    /// The question for each of these streams, at every value of a byte.
     pub fn ask_swept(&mut self, at: usize, question: Question, streams: &[u32]) {
         let sweep = Some(Sweep {
             at,
@@ -137,13 +137,13 @@ impl About {
         }
     }
 
-    /// How many bytes the whole listing has, where it can be had.
+    /// The length of the whole listing, if pdb can be asked.
     pub fn listed(&self, question: &Question) -> Option<usize> {
         let file = question.files(&self.base).pop()?;
         Some(listing(&file)?.text().len())
     }
 
-    /// The slices and bytes of the mapping, where there is one.
+    /// The number of slices and bytes of the mapping, if it is accepted.
     pub fn needed(&self, question: &Question) -> Option<(usize, usize)> {
         let file = question.files(&self.base).pop()?;
         let slices = pdb::slices(&file, question.stream, bytes(question.limit))?.ok()?;
@@ -152,7 +152,7 @@ impl About {
     }
 }
 
-/// Rooms as a record can have them.
+/// Rooms, cut to what a record can hold.
 pub fn rooms(offsets: usize, sizes: usize, bytes: usize) -> Rooms {
     Rooms {
         offsets: offsets.min(MOST_ENTRIES),

@@ -1,17 +1,17 @@
-//! A question as a list has it: with the digest of pdb's answers, and without what pdb cannot answer.
+//! A question of a list: with the digest of pdb's answers, and without what pdb cannot be asked.
 
 use super::pdb::Pdb;
 use super::question::{Question, Sweep};
 use crate::digest::Digest;
 
-/// A question of which every answer can be had, and their digest.
+/// A question that pdb can be asked, and the digest of its answers.
 pub struct Asked {
     pub question: Question,
     pub digest: Digest,
 }
 
-/// The question without the operations that have no answer. A sweep falls into a question for each
-/// run of values at which the same operations have one.
+/// The question without the operations that pdb cannot be asked. A sweep becomes a question for each run
+/// of values at which pdb can be asked for the same operations.
 pub fn asked(question: &Question, base: &[u8], skipped: &mut usize) -> Vec<Asked> {
     let mut pieces: Vec<Asked> = Vec::new();
     for (i, file) in question.files(base).iter().enumerate() {

@@ -8,8 +8,8 @@ use super::question::{Question, LIST};
 use super::show::{asked, name, swept};
 use crate::compare::Comparison;
 
-/// Compares the answers to these records, but for the listings, which our crate has not. What pdb has
-/// no answer to is left out, and said.
+/// Compares the answers to these records, without the listings, which our crate does not have. Leaves out
+/// what pdb cannot be asked, and says how much that is.
 pub fn compare(records: impl Iterator<Item = Record>, comparison: &mut Comparison) {
     let mut base = Vec::new();
     let mut skipped = 0;
@@ -37,7 +37,7 @@ pub fn compare(records: impl Iterator<Item = Record>, comparison: &mut Compariso
 
 type Answers = Vec<(&'static str, Answer)>;
 
-/// Our answers and pdb's, as far as pdb has them.
+/// Our answers and pdb's, where pdb can be asked.
 fn both(question: &Question, file: &[u8], skipped: &mut usize) -> (Answers, Answers) {
     let ours = question.answers::<Ours>(file);
     let theirs = question.answers::<Pdb>(file);

@@ -1,4 +1,4 @@
-//! Edits that damage a container: bits and words of what steers, and the file's length.
+//! Edits that damage a container: bits and words of its control data, and the file's length.
 
 use super::files::{word, Container, DIRECTORY_SIZE, ENTRIES, PAGES_USED, PAGE_SIZE};
 use super::question::Run;
@@ -12,7 +12,7 @@ pub fn edits(random: &mut Random, container: &Container, file: &[u8]) -> Vec<Run
         .collect()
 }
 
-/// A bit turned, or a word replaced by another that might stand there.
+/// Flips a bit, or replaces a word by another that is likely there.
 fn edit(random: &mut Random, container: &Container, file: &[u8]) -> Run {
     let at = place(random, container);
     if at + 4 > file.len() || random.one_in(2) {
@@ -26,8 +26,8 @@ fn edit(random: &mut Random, container: &Container, file: &[u8]) -> Run {
     word(at, value(random, container))
 }
 
-/// Where a word stands that steers: in the header, among its entries, in the location list or in
-/// the directory.
+/// The place of a word of control data: in the header, among its entries, in the location list or in the
+/// directory.
 fn place(random: &mut Random, container: &Container) -> usize {
     let words = container.directory().len();
     match random.below(8) {

@@ -1,5 +1,5 @@
-//! The project's file F: the cases that its rules name, every value of the bytes that steer, and F
-//! with words replaced.
+//! The project's file F: the cases that its rules name, every value of each byte of its control data,
+//! and F with words replaced.
 
 use super::ask::About;
 use super::files::{
@@ -35,7 +35,7 @@ const LIMITS: [u64; 22] = [
     u64::MAX,
 ];
 
-/// Words at the ends of ranges, and those that overflow where a sum or a product is too narrow.
+/// Words at the ends of ranges, and words that overflow a sum or a product that is too narrow.
 pub const BOUNDARIES: [u32; 14] = [
     0,
     1,
@@ -58,7 +58,7 @@ const COUNT_WORD: usize = 0;
 const SIZE_WORDS: std::ops::Range<usize> = 1..4;
 const PAGE_WORDS: std::ops::Range<usize> = 4..9;
 
-/// F as it is: every stream at every limit that matters, with every room.
+/// F unchanged: every stream at every limit that matters, with every room.
 pub fn whole(random: &mut Random) -> About {
     let mut about = noisy(random);
     for &stream in &[0, 1, 2, 3, 4, 0x7fff_ffff, 0xffff_ffff] {
@@ -119,7 +119,7 @@ fn page_sizes(about: &mut About) {
     }
 }
 
-/// Pages at the ends of the legal numbers, in each place that has a page number.
+/// Page numbers at the ends of the legal range, in each place that has a page number.
 fn page_numbers(about: &mut About) {
     let f = Container::f();
     let pages = PAGE_WORDS.map(|i| f.directory_word(i));
@@ -134,7 +134,7 @@ fn page_numbers(about: &mut About) {
     }
 }
 
-/// A limit does not spare the later pages.
+/// Later page numbers are checked whatever the limit.
 fn later_pages(about: &mut About) {
     let last = Container::f().directory_word(PAGE_WORDS.end - 1);
     for &page in &[0, 25] {
@@ -178,7 +178,7 @@ fn counts_and_sizes(about: &mut About) {
     }
 }
 
-/// Streams of no bytes, in directories that do or do not reach to where their pages would begin.
+/// Empty streams, in directories that do or do not reach the place where their pages would begin.
 fn empty_streams(about: &mut About) {
     let f = Container::f();
     let at = |i: usize| f.directory_word(i);
@@ -218,7 +218,7 @@ pub fn magics(random: &mut Random) -> About {
             ..about.edited(&[small.clone()])
         });
     }
-    // A big magic's first 32 bytes at a small one's place, and a page size that it reaches into.
+    // A page size in the middle of the small magic; and no magic at all.
     about.ask(about.edited(&[small, word(PAGE_SIZE, 0x100)]));
     about.ask(about.edited(&[Run {
         at: 0,
@@ -227,7 +227,7 @@ pub fn magics(random: &mut Random) -> About {
     about
 }
 
-/// F, with random bytes in all places that it does not use.
+/// F, with random bytes in all places that it leaves free.
 fn noisy(random: &mut Random) -> About {
     About::new(Container::f().file_of_noise(random))
 }

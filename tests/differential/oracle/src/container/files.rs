@@ -6,16 +6,16 @@ use crate::random::Random;
 pub const BIG_MAGIC: &[u8] = b"Microsoft C/C++ MSF 7.00\r\n\x1a\x44\x53\x00\x00\x00";
 pub const SMALL_MAGIC: &[u8] = b"Microsoft C/C++ program database 2.00\r\n\x1a\x4a\x47";
 
-// Where the header has its words.
+// Where the words of the header are.
 pub const PAGE_SIZE: usize = 32;
 pub const PAGES_USED: usize = 40;
 pub const DIRECTORY_SIZE: usize = 44;
 pub const ENTRIES: usize = 52;
 pub const HEADER_BLOCK: usize = 4096;
-/// How many location entries the header block holds.
+/// The number of location entries that the header block holds.
 pub const ENTRIES_HELD: usize = (HEADER_BLOCK - ENTRIES) / 4;
 
-/// The size of a stream that is not there.
+/// The size of an absent stream.
 pub const ABSENT: u32 = 0xffff_ffff;
 
 #[derive(Clone, Debug)]
@@ -24,16 +24,16 @@ pub struct Stream {
     pub pages: Vec<u32>,
 }
 
-/// A container's parts, each where the others say that it is.
+/// A container's parts, each at the place that the others name.
 #[derive(Clone, Debug)]
 pub struct Container {
     pub page_size: usize,
     pub used: u32,
     /// The file's length.
     pub length: usize,
-    /// The pages of the location list, as the header has them.
+    /// The pages of the location list, which the header lists.
     pub entries: Vec<u32>,
-    /// The pages of the directory, as the location list has them.
+    /// The pages of the directory, which the location list lists.
     pub location: Vec<u32>,
     pub streams: Vec<Stream>,
 }
@@ -55,7 +55,7 @@ impl Container {
         }
     }
 
-    /// The directory's words: how many streams, their sizes, their pages.
+    /// The directory's words: the number of streams, their sizes, their pages.
     pub fn directory(&self) -> Vec<u32> {
         let mut words = vec![self.streams.len() as u32];
         words.extend(self.streams.iter().map(|stream| stream.size));
@@ -134,7 +134,7 @@ pub fn stream(size: u32, pages: &[u32]) -> Stream {
     }
 }
 
-/// How many pages so many bytes take.
+/// The number of pages that these bytes take.
 pub fn need(bytes: usize, page_size: usize) -> usize {
     (bytes + page_size - 1) / page_size
 }
@@ -147,7 +147,7 @@ pub fn word(at: usize, word: u32) -> Run {
     }
 }
 
-/// Puts a word where the file has room for it.
+/// Puts a word at a place, if the file has room for it.
 pub fn put_word(file: &mut [u8], at: usize, word: u32) {
     if at + 4 <= file.len() {
         file[at..at + 4].copy_from_slice(&word.to_le_bytes());

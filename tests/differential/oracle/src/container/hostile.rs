@@ -1,19 +1,19 @@
-//! Sound files of 24 KiB with the largest directory there can be, 4,240,441,344 bytes: the header
-//! names one page of the location list 1,011 times, and that page names four pages over and over.
-//! pdb would have to make a view of all of it, so it cannot be asked. What such a file lists is
-//! reckoned here from how it is made. pdb is asked of the same file with a directory of 4 MiB, which
-//! has all its sizes and page entries, and must answer the same.
+//! Sound files of 24 KiB with the largest possible directory, 4,240,441,344 bytes: the header names one
+//! page of the location list 1,011 times, and that page names four pages over and over. pdb would make
+//! a view of the whole directory, so it cannot be asked. The listing of such a file is computed here from
+//! how the file is made. pdb is asked about the same file with a directory of 4 MiB, which has all its
+//! sizes and page entries, and must list the same.
 
 use super::files::{need, put_word, Container, DIRECTORY_SIZE, ENTRIES_HELD};
 use super::listing::{by_pdb, head, size_line, Listing};
 use crate::random::Random;
 
 const PAGE: usize = 0x1000;
-/// Words in a page.
+/// The number of words in a page.
 const WORDS: usize = PAGE / 4;
 
-// The file's pages, beside the header's. The last two have page entries in all words but one: the
-// last size is the first word of `LAST_SIZE`.
+// The file's pages after the header's. All words of the last two are page entries, except that the first
+// word of `LAST_SIZE` is the last size.
 const LOCATION: u32 = 1;
 const COUNT: u32 = 2;
 const SIZES: u32 = 3;
@@ -21,21 +21,21 @@ const LAST_SIZE: u32 = 4;
 const PAGES: u32 = 5;
 
 const LARGEST: u32 = (ENTRIES_HELD * WORDS * PAGE) as u32;
-/// Once round the location list.
+/// One pass over the location list.
 const ONE_ROUND: u32 = (WORDS * PAGE) as u32;
 
-/// Each stream has 254 pages. So all entries of 4,096 streams are in the first round, and the listing
-/// is over 64 KiB.
+/// Each stream has 254 pages. So all entries of 4,096 streams are in the first pass, and the listing is
+/// over 64 KiB.
 const SIZE: usize = 254 * PAGE - 1000;
 
-/// The numbers of streams that are asked: the most that are listed, and half of it.
+/// How many streams the files have: as many as are listed, and half of it.
 pub const STREAMS: [u32; 2] = [4096, 2048];
 
 pub fn file(streams: u32) -> Vec<u8> {
     with_directory(streams, LARGEST)
 }
 
-/// What a hostile file lists, if this is one.
+/// The listing of a hostile file, if this is one.
 pub fn listing(file: &[u8]) -> Option<Listing> {
     let streams = STREAMS.iter().find(|&&n| file == &self::file(n)[..])?;
     let reckoned = Listing::Lines(lines(*streams));
@@ -45,7 +45,7 @@ pub fn listing(file: &[u8]) -> Option<Listing> {
     }
 }
 
-/// The file, of a multiple of 1,024 streams.
+/// The file. The number of streams is a multiple of 1,024.
 fn with_directory(streams: u32, size: u32) -> Vec<u8> {
     let mut location = vec![COUNT];
     location.resize(streams as usize / WORDS, SIZES);
@@ -73,8 +73,8 @@ fn with_directory(streams: u32, size: u32) -> Vec<u8> {
     file
 }
 
-/// The page number in word `w` of the directory: the last page but one, or, at each seventh word of a
-/// page, the last.
+/// The page number in word `w` of the directory: the last page at each seventh word of a page, else the
+/// page before it.
 fn entry(w: usize) -> u32 {
     if w % WORDS % 7 == 6 {
         PAGES
@@ -91,7 +91,7 @@ fn lines(streams: u32) -> Vec<String> {
         .collect()
 }
 
-/// A stream's slices: its pages, of which each that is one above the page before opens none.
+/// The number of a stream's slices: its pages, without those that are one above the page before.
 fn slices(streams: u32, k: u32) -> usize {
     let pages = need(SIZE, PAGE);
     let first = 1 + streams as usize + k as usize * pages;

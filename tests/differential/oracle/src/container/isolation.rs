@@ -1,5 +1,5 @@
 //! Streams do not leak: pairs of files of equal length that agree on the bytes that answers about a
-//! stream depend on, and differ elsewhere. pdb must answer the same of both.
+//! stream depend on, and differ elsewhere. pdb must answer the same for both.
 
 use std::io::{self, Write};
 
@@ -20,13 +20,13 @@ struct Pair {
     second: Vec<u8>,
 }
 
-/// What the pairs of a list come to.
+/// The totals of a list of pairs.
 #[derive(Default)]
 struct Figures {
     pairs: usize,
     bytes: usize,
     changed: usize,
-    /// The pairs of which pdb's answers differ.
+    /// The pairs for which pdb's answers differ.
     leaks: Vec<usize>,
 }
 
@@ -38,8 +38,8 @@ pub fn write(seed: u64, count: u64, out: &mut impl Write) -> io::Result<()> {
     })
 }
 
-/// Hands on the records of `count` pairs, made of the files of a live list. Says how many bytes
-/// differ in them, and stops where pdb's answers do, or where there are no such pairs.
+/// Passes on the records of `count` pairs, made from the files of a live list. Says how many bytes differ
+/// in them. Stops if pdb's answers differ, or if there are not as many pairs.
 pub fn judged<T>(
     seed: u64,
     count: u64,
@@ -63,7 +63,7 @@ pub fn judged<T>(
     taken
 }
 
-/// The files of a live list, sound and damaged, and the question about each as it then is.
+/// The files of a live list, sound and damaged, each with its question.
 fn files(seed: u64, count: u64) -> impl Iterator<Item = (Vec<u8>, Question)> {
     let mut base = Vec::new();
     live(seed, count).filter_map(move |record| match record {
@@ -79,7 +79,7 @@ fn files(seed: u64, count: u64) -> impl Iterator<Item = (Vec<u8>, Question)> {
     })
 }
 
-/// A live file has the big magic. Some get the small one, and some of these with a bit turned.
+/// A live file has the big magic. Some get the small one, and some of these a flipped bit.
 fn put_small_magic(random: &mut Random, file: &mut [u8]) {
     if file.len() < SMALL_MAGIC.len() || !random.one_in(32) {
         return;
@@ -90,8 +90,8 @@ fn put_small_magic(random: &mut Random, file: &mut [u8]) {
     }
 }
 
-/// What a pair is asked for: an operation, whose list the pair agrees on, and those before it, whose
-/// lists are parts of that one. In a pair for mapping the stream's own bytes are off the list.
+/// The operations asked for: one whose list the pair agrees on, and those before it, whose lists are
+/// parts of that list. In a pair for mapping the stream's own bytes are off the list.
 fn asked(random: &mut Random) -> u8 {
     match random.below(8) {
         0 => OPEN,
@@ -101,8 +101,8 @@ fn asked(random: &mut Random) -> u8 {
     }
 }
 
-/// The file, and a copy of it in which every byte off the list is another, or every such byte in the
-/// pages of other streams. None where there is no such byte.
+/// The file, and a copy in which every byte off the list is changed, or every such byte in the pages of
+/// other streams. `None` if there is no such byte.
 fn pair(random: &mut Random, first: Vec<u8>, question: Question) -> Option<Pair> {
     let question = Question {
         operations: asked(random),

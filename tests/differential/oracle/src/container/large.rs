@@ -1,5 +1,5 @@
-//! Files whose offsets, counts, sizes and values take more than 16 and 32 bits. They are asked through
-//! the crate alone, since a list has no room for them.
+//! Files whose offsets, counts, sizes and values take more than 16 and 32 bits. They are asked about
+//! through the crate alone, since a list has no room for them.
 
 use super::ask::About;
 use super::files::{stream, word, Container, ABSENT, ENTRIES, PAGES_USED, PAGE_SIZE};
@@ -69,7 +69,7 @@ fn far_file(random: &mut Random) -> About {
     about
 }
 
-/// A file of 16 MiB that names pages at 4 GiB and the last that 32 bits can name.
+/// A file of 16 MiB that names pages at 4 GiB, and the largest page number of 32 bits.
 fn far_pages(random: &mut Random) -> About {
     const PAGES: [u32; 6] = [FAR - 1, FAR, 600, 0x8000_0000, 0xffff_fffe, 0xffff_ffff];
     let container = Container {
@@ -100,8 +100,8 @@ fn far_pages(random: &mut Random) -> About {
     about
 }
 
-/// A stream of over 65,536 slices, each the same page: mapped with all of them, and as much of it
-/// extracted, in stores that are enough, too small by one, larger and empty.
+/// A stream of over 65,536 slices, all of the same page: mapped whole, and as many bytes extracted, into
+/// stores that are just enough, one too small, larger and empty.
 fn many_slices(random: &mut Random) -> About {
     const COUNT: usize = BITS_17 + 5;
     let container = Container {
@@ -144,7 +144,7 @@ fn many_slices(random: &mut Random) -> About {
     about
 }
 
-/// File F with words of more than 16 bits, which then are refusals' values, and counts.
+/// File F with words of more than 16 bits, which become refusals' values, and counts.
 fn values_of_32_bits(random: &mut Random) -> About {
     let f = Container::f();
     let mut about = About::new(f.file(random));

@@ -1,5 +1,5 @@
-//! A list of questions about containers: base files, and questions that each ask of an edited copy
-//! of the base file before it (`tests/differential/README.md` has the format).
+//! A list of questions about containers: base files, and questions about edited copies of the base file
+//! before them (`tests/differential/README.md` has the format).
 
 use std::io::{self, Write};
 
@@ -29,8 +29,8 @@ pub enum Record {
     Question(Question),
 }
 
-/// Writes the list of these records with pdb's answers, and says how many answers pdb could not be
-/// asked for.
+/// Writes the list of these records with pdb's answers, and says how many answers are left out because
+/// pdb cannot be asked.
 pub fn write(records: impl Iterator<Item = Record>, out: &mut impl Write) -> io::Result<()> {
     let mut base = Vec::new();
     let mut skipped = 0;
@@ -110,12 +110,12 @@ fn parse_from(byte: u8) -> Start {
     }
 }
 
-/// A number, little-endian, in so many bytes.
+/// Appends a little-endian number of `width` bytes.
 fn put(record: &mut Vec<u8>, number: u64, width: usize) {
     record.extend_from_slice(&number.to_le_bytes()[..width]);
 }
 
-/// Runs as a record has them: place u32, count u16, bytes.
+/// Runs in a record's format: place u32, count u16, bytes.
 fn body(runs: &[Run]) -> Vec<u8> {
     let mut body = Vec::new();
     for run in runs {
@@ -129,9 +129,9 @@ fn body(runs: &[Run]) -> Vec<u8> {
     body
 }
 
-/// A file as runs, without its longer stretches of zeros.
+/// A file as runs, without its longer runs of zeros.
 fn runs(file: &[u8]) -> Vec<Run> {
-    /// So many zeros in a row are cheaper left out: a run's place and count take as much.
+    /// More zeros than this are left out: a run's place and count take as many bytes.
     const GAP: usize = 6;
     let mut runs: Vec<Run> = Vec::new();
     for (at, &byte) in file.iter().enumerate().filter(|(_, &byte)| byte != 0) {
@@ -149,7 +149,7 @@ fn runs(file: &[u8]) -> Vec<Run> {
     runs
 }
 
-/// Question `n` of a list, which counts base files too, with its base file and the digest beside it.
+/// The question of record `n` of a list, with its base file and digest. Base files are records too.
 pub fn record(list: &[u8], n: usize) -> (Question, Vec<u8>, Digest) {
     let record = LAYOUT.record(list, n);
     if record[4] == BASE {

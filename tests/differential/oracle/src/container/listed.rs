@@ -10,8 +10,8 @@ use super::steps::{counted, headed, list_read, placed, readable, wanted, MOST_LO
 /// Some of a file's bytes.
 pub struct Bytes(Vec<bool>);
 
-/// The bytes that the question's operations depend on. The list of each operation begins with that
-/// of the one before it.
+/// The bytes that the question's operations depend on. The list of each operation includes that of the
+/// one before it.
 pub fn listed(file: &[u8], question: &Question) -> Bytes {
     let k = question.stream as usize;
     let mut listed = Bytes::none(file);
@@ -46,7 +46,7 @@ pub fn other_pages(file: &[u8], stream: u32) -> Bytes {
 
 // The items of the list.
 impl Bytes {
-    /// Bytes 0 to 35 and 40 to 47, and 36 to 39 too where bytes 0 to 31 are not the big magic.
+    /// Bytes 0 to 35 and 40 to 47, and 36 to 39 too if bytes 0 to 31 are not the big magic.
     fn put_header(&mut self, file: &[u8]) {
         self.put(0..PAGE_SIZE + 4);
         self.put(PAGES_USED..DIRECTORY_SIZE + 4);
@@ -73,7 +73,7 @@ impl Bytes {
         }
     }
 
-    /// Of the directory the count, if it holds it.
+    /// The directory's count, if the directory holds it.
     fn put_count(&mut self, file: &[u8]) {
         if let Some(header) = counted(file) {
             self.put_word(header.word_place(0));
@@ -124,7 +124,7 @@ impl Bytes {
         self.put(at..at + 4);
     }
 
-    /// Puts in as many of these bytes as the file has.
+    /// Adds those of these bytes that the file has.
     fn put(&mut self, places: Range<usize>) {
         let end = self.0.len();
         for has in &mut self.0[places.start.min(end)..places.end.min(end)] {

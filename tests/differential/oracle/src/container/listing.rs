@@ -1,5 +1,5 @@
-//! The listing of a file, made of what pdb answers: its count, and each stream's mapping. The text,
-//! the parts and refusal 11 are the project's own rules, and written here from these alone.
+//! The listing of a file, made from pdb's answers: the count, and each stream's mapping. The text, the
+//! parts and refusal 11 are the project's own rules, and are written here from those rules alone.
 
 use super::answers::{untouched, Answer};
 use super::hostile;
@@ -37,8 +37,8 @@ struct Part {
     next: Place,
 }
 
-/// The listing of a file. Where pdb has no answer there is none either, but for the hostile files,
-/// whose listing is reckoned.
+/// The listing of a file. `None` if pdb cannot be asked, except for the hostile files, whose listing is
+/// computed.
 pub fn listing(file: &[u8]) -> Option<Listing> {
     by_pdb(file).or_else(|| hostile::listing(file))
 }
@@ -51,7 +51,7 @@ pub fn whole(file: &[u8]) -> String {
     }
 }
 
-/// The listing as pdb's answers make it.
+/// The listing made from pdb's answers.
 pub fn by_pdb(file: &[u8]) -> Option<Listing> {
     if file.len() > MOST_BYTES {
         return Some(Listing::Refused(OVER_LIMIT, MOST_BYTES as u64));
@@ -69,7 +69,7 @@ pub fn by_pdb(file: &[u8]) -> Option<Listing> {
     }
 }
 
-/// The sizes reach past the directory, or there are too many.
+/// 7 if the sizes reach past the directory, 11 if there are too many streams.
 fn over(directory: &Directory) -> Option<(u64, u64)> {
     if 4 + 4 * directory.streams > directory.size {
         return Some((SHORT_DATA, 0));
@@ -99,7 +99,7 @@ pub fn head(streams: u32) -> String {
     format!("streams {}\n", streams)
 }
 
-/// A stream's line, of what mapping it answers: its length, and how many slices.
+/// A stream's line, from its mapping: the length, and the number of slices.
 fn line(k: u32, got: Result<usize>, slices: usize) -> String {
     match got {
         Ok(size) => size_line(k, size, slices),
@@ -127,9 +127,9 @@ impl Listing {
         }
     }
 
-    /// What the project's operation answers, asked again and again from a place on, each time into a
-    /// store of so many bytes: up to the end, to a refusal, or to a part of no line. After each
-    /// answer the whole store; after a refusal what its line then comes to in the store.
+    /// The answers of the project's operation, asked repeatedly from a place on, each time into a store of
+    /// `room` bytes, until the end, a refusal, or a part without a line. Each answer is followed by the
+    /// whole store, and a refusal by the answer and store of writing its line.
     pub fn answer(&self, from: Place, room: usize) -> Answer {
         match self {
             Listing::Lines(lines) => parts(lines, from, room)
@@ -201,7 +201,7 @@ impl Part {
     }
 }
 
-/// A store of so many bytes that begins with what was written.
+/// A store of `room` bytes that begins with what was written.
 fn store(written: &[u8], room: usize) -> Answer {
     let mut store = untouched(room);
     store[..written.len()].copy_from_slice(written);

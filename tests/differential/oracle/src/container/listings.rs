@@ -17,7 +17,7 @@ const ROOMS: [usize; 12] = [0, 1, 9, 10, 17, 18, 23, 24, 31, 32, 33, PROGRAM_ROO
 
 const LONGEST_LISTED: usize = 65_536;
 
-/// A file that the tests of the program name.
+/// A file that the tests of the program ask for by name.
 pub fn named(name: &str) -> Vec<u8> {
     let mut random = Random::new(0);
     match name {
@@ -41,7 +41,7 @@ fn refused_by_page_size(random: &mut Random) -> Vec<u8> {
     file
 }
 
-/// F as it is, in each room and from each place.
+/// F unchanged, in each room and from each place.
 pub fn whole_f(random: &mut Random) -> About {
     let mut about = About::new(Container::f().file_of_noise(random));
     for &room in &ROOMS {
@@ -58,7 +58,7 @@ pub fn whole_f(random: &mut Random) -> About {
     about
 }
 
-/// Each cause of each refusal, of F as a whole and of its streams.
+/// Each cause of each refusal, for F as a whole and for its streams.
 pub fn refused(random: &mut Random) -> About {
     let mut about = About::new(Container::f().file_of_noise(random));
     for length in vec![0, 1, 4095] {
@@ -128,8 +128,8 @@ fn stream_refusals() -> Vec<Vec<Run>> {
     edits
 }
 
-/// Page numbers at a place: out of range, and 24, which is past the file and which pages_used 25
-/// makes legal.
+/// Page numbers at a place: out of range; and 24, which is past the file, with pages_used 25, by which it
+/// is legal.
 fn pages(at: usize) -> Vec<Vec<Run>> {
     vec![
         vec![word(at, 0)],
@@ -139,12 +139,12 @@ fn pages(at: usize) -> Vec<Vec<Run>> {
     ]
 }
 
-/// Files as long as a file that is listed may be, and a byte longer.
+/// Files of the greatest length that is listed, and one byte longer.
 pub fn longest(random: &mut Random) -> About {
     let mut about = About::new(longest_file(random, LONGEST_LISTED));
     for &length in &[LONGEST_LISTED - 1, LONGEST_LISTED, LONGEST_LISTED + 1] {
         about.ask_listing_around(about.cut(length));
-        // The length is judged first.
+        // The length is checked first.
         let no_magic = Question {
             length,
             ..about.edited(&[word(0, 0)])
@@ -154,7 +154,7 @@ pub fn longest(random: &mut Random) -> About {
     about
 }
 
-/// A sound file of so many bytes, whose last pages are streams.
+/// A sound file of `length` bytes, whose last pages are streams.
 fn longest_file(random: &mut Random, length: usize) -> Vec<u8> {
     let container = Container {
         used: 255,
@@ -165,7 +165,7 @@ fn longest_file(random: &mut Random, length: usize) -> Vec<u8> {
     container.file(random)
 }
 
-/// As many streams as are listed, whole, in parts, and from late places.
+/// The greatest number of streams that is listed: whole, in parts, and from late places.
 pub fn most_streams(random: &mut Random) -> About {
     let mut about = About::new(of_streams(4096).file(random));
     about.ask_listing_around(about.question());
@@ -181,7 +181,7 @@ pub fn most_streams(random: &mut Random) -> About {
     about
 }
 
-/// One stream more.
+/// One more stream.
 pub fn too_many_streams(random: &mut Random) -> About {
     let container = of_streams(4097);
     let mut about = About::new(container.file(random));
@@ -193,7 +193,7 @@ pub fn too_many_streams(random: &mut Random) -> About {
     about
 }
 
-/// A sound container of so many streams, about 4,096. Most are empty.
+/// A sound container of `count` streams, about 4,096. Most are empty.
 fn of_streams(count: usize) -> Container {
     let streams = (0..count)
         .map(|i| match i % 64 {
@@ -213,7 +213,7 @@ fn of_streams(count: usize) -> Container {
     }
 }
 
-/// Lines as long as they can be, so that a listing takes more than one of the program's parts.
+/// Lines of the greatest length, so that a listing takes more than one of the program's parts.
 pub fn long_lines(random: &mut Random) -> About {
     let mut about = About::new(of_long_lines().file(random));
     about.ask_listing(about.question(), Start::Head, PROGRAM_ROOM);

@@ -7,10 +7,10 @@ use super::list::{Record, LONGEST_FILE};
 use super::question::{Question, Start};
 use crate::random::Random;
 
-/// Half of them about the container, half about damaged copies of it.
+/// Half of them are about the container, half about damaged copies of it.
 const QUESTIONS: usize = 8;
 
-/// Questions about `count` containers, made one container at a time, so that a list may be long.
+/// Questions about `count` containers, made one at a time, so that a list can be long.
 pub fn live(seed: u64, count: u64) -> impl Iterator<Item = Record> {
     let mut random = Random::new(seed);
     (0..count).flat_map(move |_| {
@@ -32,7 +32,7 @@ pub fn live(seed: u64, count: u64) -> impl Iterator<Item = Record> {
     })
 }
 
-/// The same with small pages and few streams, for a list that is kept.
+/// The same with small pages and few streams, for the recorded list.
 pub fn small(seed: u64, count: u64) -> impl Iterator<Item = Record> {
     let mut random = Random::new(seed);
     (0..count).flat_map(move |_| {
@@ -56,8 +56,8 @@ fn about(random: &mut Random, page_size: usize, sizes: Vec<u32>) -> Vec<Record> 
     about.records
 }
 
-/// The listing too, most often from the head. Its store is that of the stream's bytes, which mostly
-/// takes it whole; in one question of four there is about as much room as it needs.
+/// The listing too, most often from the head. Its store is that of the stream's bytes, which is mostly
+/// large enough; in one question of four the room is about what the listing needs.
 fn and_listing(random: &mut Random, about: &About, question: Question) -> Question {
     let mut question = question.and_listing();
     question.from = match random.below(16) {
@@ -75,7 +75,7 @@ fn and_listing(random: &mut Random, about: &About, question: Question) -> Questi
     question
 }
 
-/// The sizes of at most so many streams.
+/// The sizes of at most `most` streams.
 fn sizes(random: &mut Random, page_size: usize, most: usize) -> Vec<u32> {
     (0..random.below(most + 1))
         .map(|_| size(random, page_size))
@@ -93,7 +93,7 @@ fn size(random: &mut Random, page_size: usize) -> u32 {
     }
 }
 
-/// So many streams that small pages make a location list of several pages. Most are empty.
+/// Enough streams for a location list of several small pages. Most are empty.
 fn many_sizes(random: &mut Random) -> Vec<u32> {
     (0..3000 + random.below(3000))
         .map(|_| match random.below(64) {
@@ -104,8 +104,8 @@ fn many_sizes(random: &mut Random) -> Vec<u32> {
         .collect()
 }
 
-/// A sound container: every page has one use, and the file is as long as its pages. Streams at the
-/// end are left out where the file would be too long.
+/// A sound container: every page has one use, and the file is as long as its pages. Streams at the end
+/// are left out if the file would be too long.
 fn container(random: &mut Random, page_size: usize, mut sizes: Vec<u32>) -> Container {
     let first = need(HEADER_BLOCK, page_size);
     while first + Parts::of(&sizes, page_size).pages() > LONGEST_FILE / page_size {
@@ -131,7 +131,7 @@ fn container(random: &mut Random, page_size: usize, mut sizes: Vec<u32>) -> Cont
     }
 }
 
-/// How many pages the parts of a container take.
+/// The number of pages of each part of a container.
 struct Parts {
     entries: usize,
     location: usize,
@@ -162,7 +162,7 @@ fn pages(size: u32, page_size: usize) -> usize {
     }
 }
 
-/// The pages from `first` on in runs: each goes up or, seldom, down, and the runs are in no order.
+/// The pages from `first` on, in runs: each goes up or, rarely, down, and the runs are shuffled.
 fn shuffled(random: &mut Random, first: u32, count: usize) -> Vec<u32> {
     let mut runs: Vec<Vec<u32>> = Vec::new();
     for page in first..first + count as u32 {
@@ -239,7 +239,7 @@ fn limit(random: &mut Random, container: &Container, stream: u32) -> Option<u64>
     }
 }
 
-/// A length that cuts the file, most often near a page's end, or makes it longer.
+/// A length that cuts the file, most often near a page's end, or extends it.
 fn length(random: &mut Random, container: &Container) -> usize {
     let pages = container.length / container.page_size;
     let end = (random.below(pages) + 1) * container.page_size;

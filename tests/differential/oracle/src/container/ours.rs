@@ -1,4 +1,4 @@
-//! What our library answers of a container, through the crate `trovespan`. It always answers.
+//! Our library's answers about a container, through the crate `trovespan`. It always answers.
 
 use super::answers::{Library, Refusal};
 

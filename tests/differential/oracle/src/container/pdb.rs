@@ -1,5 +1,5 @@
-//! What pdb answers of a container, by the numbers of the project's rules. `None` is an answer that
-//! cannot be had: pdb would make a view of over 1 GiB.
+//! pdb's answers about a container, by the numbers of the project's rules. `None` means that pdb cannot be
+//! asked, since it would make a view of over 1 GiB.
 
 use std::io::{Cursor, ErrorKind};
 
@@ -19,7 +19,7 @@ const PAGE_REFERENCE_OUT_OF_RANGE: u64 = 4;
 const STREAM_NOT_FOUND: u64 = 5;
 const FILE_ENDS: u64 = 6;
 pub const SHORT_DATA: u64 = 7;
-/// The rules' own refusal, which pdb lacks.
+/// The rules' own refusal, which pdb does not have.
 const NO_ROOM: u64 = 10;
 
 const HEADER_BLOCK: usize = 4096;
@@ -84,7 +84,7 @@ fn no_room<T>(needed: usize) -> std::result::Result<T, Refusal> {
 
 fn opened(file: &[u8]) -> Result<(u64, u64)> {
     open_msf(Cursor::new(file))?;
-    // What `open_msf` hands out hides its header, so it is made once more, as `open_msf` makes it.
+    // The result of `open_msf` hides its header, so the header is made again, as `open_msf` does.
     let mut source = Cursor::new(file);
     let block = source.view(&[SourceSlice {
         offset: 0,
@@ -104,8 +104,8 @@ pub struct Directory {
     pub size: u64,
 }
 
-/// The directory's first word is the count. pdb has no such function; any stream that is asked for
-/// has the directory read, and too short a directory refused.
+/// The directory's first word is the count. pdb has no such function. A request for any stream makes it
+/// read the directory, and refuse one that is too short.
 pub fn counted(file: &[u8]) -> Option<Result<Directory>> {
     let (got, seen) = get(file, 0, Some(0), Reading::OnlyTheTable);
     if seen.over {

@@ -1,4 +1,4 @@
-//! A question about a container: a base file's edited copy, and what is asked of it.
+//! A question about a container: an edited copy of a base file, and what is asked about it.
 
 use super::answers::{self, Answer, Library};
 use super::listing::{listing, Place};
@@ -17,7 +17,7 @@ pub struct Run {
     pub bytes: Vec<u8>,
 }
 
-/// How many entries the stores have. That of bytes is lent for a stream, and for a listing.
+/// The lengths of the stores. That of bytes is lent for a stream and for a listing.
 #[derive(Clone, Copy, Debug)]
 pub struct Rooms {
     pub offsets: usize,
@@ -44,7 +44,7 @@ pub struct Sweep {
 
 #[derive(Clone, Debug)]
 pub struct Question {
-    /// The file's length: the base file is cut there, or goes on with zeros.
+    /// The file's length. The base file is cut there, or extended by zeros.
     pub length: usize,
     pub edits: Vec<Run>,
     pub sweep: Option<Sweep>,
@@ -64,9 +64,9 @@ impl Question {
         }
     }
 
-    /// The files that the question asks of.
+    /// The files that the question is about.
     pub fn files(&self, base: &[u8]) -> Vec<Vec<u8>> {
-        // Zeros first: of those that nothing is put into a long file takes no memory.
+        // Zeros first: those of a long file that nothing touches take no memory.
         let mut file = vec![0; self.length];
         let kept = base.len().min(self.length);
         file[..kept].copy_from_slice(&base[..kept]);
@@ -85,8 +85,8 @@ impl Question {
         }
     }
 
-    /// What a library answers of a file, operation by operation, with `None` where it has no answer.
-    /// A listing is made of pdb's answers, whichever library is asked.
+    /// A library's answers about a file, operation by operation. `None` if it cannot be asked. A listing is
+    /// made from pdb's answers, whichever library is asked.
     pub fn answers<L: Library>(&self, file: &[u8]) -> Vec<(u8, Option<Answer>)> {
         let Rooms {
             offsets,

@@ -1,8 +1,8 @@
 //! The inputs of `docs/RULES.md` about containers, row by row.
 //!
-//! An input is the project's file F but for what it names. As in the table, a place in F's location
-//! list or directory is the number of its byte. R11, R12 and R46 to R59 are about annotations, R60
-//! about reads (`buffer/rules.rs`); R61 to R70 are about the listing.
+//! An input is the project's file F except for what it names. As in the table, a place in F's location
+//! list or directory is a byte number. R11, R12 and R46 to R59 are about annotations, R60 about reads
+//! (`buffer/rules.rs`), R61 to R70 about the listing.
 
 use super::ask::About;
 use super::files::{Container, DIRECTORY_SIZE, ENTRIES, PAGES_USED, PAGE_SIZE, SMALL_MAGIC};
@@ -12,14 +12,14 @@ use crate::random::Random;
 const FREE_PAGE_MAP: usize = 36;
 const RESERVED: usize = 48;
 
-/// The rooms where a row names none.
+/// The rooms of a row that names none.
 const ROOMS: Rooms = Rooms {
     offsets: 8,
     sizes: 8,
     bytes: 1024,
 };
 
-/// The questions of all rows, in the table's order. The bytes that F leaves free are noise.
+/// The questions of all rows, in the table's order. The bytes that F leaves free are random.
 pub fn rows(random: &mut Random) -> About {
     let mut about = About::new(Container::f().file_of_noise(random));
     let rows = [
@@ -108,7 +108,7 @@ fn order_and_stores() -> Vec<Question> {
         no_entry().put(PAGE_SIZE, &[0]).bytes(31, &[1]).open(),
         no_entry().put(PAGE_SIZE, &[0]).open(),
         no_entry().open(),
-        // R15. F comes just before, so that a header kept from it would show.
+        // R15. F comes just before, to detect a header kept from it.
         f().all(2),
         f().put(PAGE_SIZE, &[0x180]).all(2),
         f().put(ENTRIES, &[25]).all(2),
@@ -334,7 +334,7 @@ fn listing() -> Vec<Question> {
     ]
 }
 
-/// F, of which nothing is asked yet.
+/// F, with no operation asked for yet.
 fn f() -> Question {
     Question {
         length: Container::f().length,
@@ -385,8 +385,8 @@ fn over_two_pages() -> Question {
         .put(2048, &[0])
 }
 
-/// Stream 2 is zeros but for three bytes: the last of its first slice, the first of its second
-/// slice, and the last of all. The byte after it is no zero either.
+/// Stream 2 is zeros except for three bytes: the last of its first slice, the first of its second slice,
+/// and the last of all. The byte after it is not zero either.
 fn marked() -> Question {
     f().bytes(1280, &[0; 256])
         .bytes(2560, &[0; 512])
@@ -395,7 +395,7 @@ fn marked() -> Question {
         .bytes(1367, &[3, 4])
 }
 
-/// How a row says what it asks.
+/// How a row makes its question.
 impl Question {
     /// These words from a place on.
     fn put(self, at: usize, words: &[u32]) -> Self {
@@ -414,7 +414,7 @@ impl Question {
         self
     }
 
-    /// The first bytes only, also of what was put there.
+    /// Cuts the file, and what was put into it.
     fn cut(mut self, length: usize) -> Self {
         for edit in &mut self.edits {
             edit.bytes.truncate(length.saturating_sub(edit.at));
@@ -422,7 +422,7 @@ impl Question {
         Question { length, ..self }
     }
 
-    /// Longer by zeros.
+    /// Extends the file by zeros.
     fn long(self, length: usize) -> Self {
         Question { length, ..self }
     }

@@ -1,4 +1,4 @@
-//! Files of each shape that a rule or a slip is about.
+//! Files of each shape that a rule or a likely mistake is about.
 
 use super::ask::About;
 use super::file_f::BOUNDARIES;
@@ -11,7 +11,7 @@ use crate::random::Random;
 
 const ALL_STREAMS: [u32; 4] = [0, 1, 2, 3];
 
-/// Location list and directory at the file's end, and the file cut at every byte that matters.
+/// Location list and directory at the file's end; the file is cut at every byte that matters.
 pub fn truncated(random: &mut Random) -> About {
     let container = Container {
         length: 0x1800,
@@ -85,7 +85,7 @@ pub fn spread(random: &mut Random) -> About {
         let edits = [word(container.directory_word(i), random.pick(&BOUNDARIES))];
         about.ask_streams(about.edited(&edits).and_listing(), &[0, 20, 39]);
     }
-    // A directory that ends at every word, so that one of its parts is cut.
+    // A directory that ends at every word.
     for i in 0..words {
         let edits = [word(DIRECTORY_SIZE, 4 * i as u32)];
         about.ask_streams(about.edited(&edits).and_listing(), &[0, 39]);
@@ -93,7 +93,7 @@ pub fn spread(random: &mut Random) -> About {
     about
 }
 
-/// Streams so large that the entries of their pages would take 2^32 bytes, which is 0 in 32 bits.
+/// Streams so large that their page entries would take 2^32 bytes, which is 0 in 32 bits.
 pub fn large_before(random: &mut Random) -> About {
     let mut streams = vec![stream(0xffff_fffe, &[]); 64];
     streams.push(stream(300, &[17, 18]));
@@ -208,7 +208,7 @@ pub fn all_threes(random: &mut Random) -> About {
     about
 }
 
-/// The same with a location list and a directory of their own.
+/// The same with a separate location list and directory.
 pub fn location_limit(random: &mut Random) -> About {
     let container = Container {
         entries: vec![20; ENTRIES_HELD],
@@ -222,7 +222,7 @@ pub fn location_limit(random: &mut Random) -> About {
     };
     let mut about = About::new(container.file(random));
     ask_location_limit(&mut about);
-    // A larger page leaves the header block where it is: it holds as many entries.
+    // A larger page does not change the header block: it holds as many entries.
     for &size in &[0x200, 0x1000, 0x2000] {
         let words: u64 = size / 4;
         for &entries in &[ENTRIES_HELD as u64, ENTRIES_HELD as u64 + 1] {
@@ -295,7 +295,7 @@ pub fn location_pages(random: &mut Random) -> About {
     ] {
         about.ask_streams(about.cut(length), &[35]);
     }
-    // Of a listing too many streams are refused with 11, but first with 7 where their sizes are cut.
+    // A listing refuses too many streams with 11, but first with 7 if their sizes are cut short.
     about.ask_listing_around(about.question());
     for &count in &[4096, 4097, 5000] {
         let sizes = 4 + 4 * count;
@@ -334,7 +334,7 @@ fn many_streams() -> Container {
     container
 }
 
-/// Page numbers up to the largest there is.
+/// Page numbers up to the largest possible.
 pub fn high_pages(random: &mut Random) -> About {
     let container = Container {
         used: 0xffff_ffff,
@@ -355,7 +355,7 @@ pub fn high_pages(random: &mut Random) -> About {
             });
         }
     }
-    // A page after the largest number is 0, which is no page.
+    // One above the largest number is 0, which is not a page.
     let place = container.directory_word(container.first_page_word(0) + 2);
     about.ask(about.edited(&[word(place, 0)]));
     about
@@ -387,7 +387,7 @@ fn large_page(page_size: usize, length: usize, random: &mut Random) -> About {
             stream(40, &[6]),
         ],
     };
-    // The streams' pages would make the list long, so only their ends are not zero.
+    // Only the ends of the streams' pages are not zero, to keep the list short.
     let mut file = container.file(random);
     for page in 3..=5 {
         let from = page * page_size;
@@ -415,7 +415,7 @@ fn large_page(page_size: usize, length: usize, random: &mut Random) -> About {
     about
 }
 
-/// The file has one page beside the header's, and that is location list, directory and stream.
+/// The file has one page after the header's, which is location list, directory and stream.
 pub fn page_of_65536(random: &mut Random) -> About {
     let container = Container {
         page_size: 0x10000,
@@ -425,7 +425,7 @@ pub fn page_of_65536(random: &mut Random) -> About {
         location: vec![1],
         streams: vec![stream(40, &[1])],
     };
-    // Of its noise a few bytes are enough.
+    // A few random bytes are enough.
     let mut file = container.file(random);
     file[0x10040..].iter_mut().for_each(|b| *b = 0);
     let mut about = About::new(file);
@@ -443,7 +443,7 @@ pub fn page_of_65536(random: &mut Random) -> About {
     about
 }
 
-/// Pages of 8 MiB: all but page 0 is past the file's end.
+/// Pages of 8 MiB: every page but page 0 is past the file's end.
 pub fn largest_page(random: &mut Random) -> About {
     let container = Container {
         page_size: 0x80_0000,
@@ -495,7 +495,7 @@ pub fn over_and_over(random: &mut Random) -> About {
         operations: MAP,
         ..about.edited(&edits(4 * MIB, 0xffff_ffff, 2 * MIB))
     });
-    // The largest directory that the entries can name is over what pdb can be asked for.
+    // pdb cannot be asked about the largest directory that the entries can name.
     for &directory in &[0x0fff_ffff, 0x4000_0001, 0xfcc0_0000, 0xfcc0_0001] {
         about.ask(Question {
             limit: Some(0x3001),

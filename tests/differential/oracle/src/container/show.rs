@@ -1,4 +1,4 @@
-//! A question and pdb's answers as text, for a reader who looks into a difference.
+//! A question and pdb's answers as text, to look into a difference.
 
 use std::fmt::Write;
 
@@ -39,7 +39,7 @@ fn show(
     writeln!(out, "recorded {:?}\nthe Rust {:?}", recorded, digest)
 }
 
-/// What is asked of which base file, but for the listing.
+/// The question and its base file, without the listing.
 pub fn asked(question: &Question, base: &[u8]) -> String {
     let mut text = format!(
         "a base file of {} bytes, asked at {}\n",

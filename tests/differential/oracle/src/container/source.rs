@@ -1,5 +1,5 @@
-//! The source that pdb reads a file from. It answers as pdb's own source over a `Cursor` does, by
-//! handing each request to that, and it keeps what was requested.
+//! The source that pdb reads a file from. It passes each request on to pdb's own source over a `Cursor`,
+//! and keeps what was requested.
 
 use std::cell::{Ref, RefCell};
 use std::io::{self, Cursor};
@@ -9,29 +9,29 @@ use crate::common::Result;
 use crate::msf::{open_msf, Msf, Stream};
 use crate::source::{Source, SourceSlice, SourceView};
 
-/// A larger view than this one is not made.
+/// No larger view is made.
 const LARGEST_VIEW: usize = 1 << 30;
 
-// pdb asks for the header block, the location list, the directory and the stream, in this order. Once
-// it has the directory it keeps it, so each view after that is a stream's.
+// pdb requests the header block, the location list, the directory and the stream, in this order. It keeps
+// the directory, so each later view is a stream's.
 const DIRECTORY: usize = 3;
 const STREAM: usize = 4;
 
-/// What pdb asked of its source.
+/// What pdb requested from its source.
 #[derive(Debug, Default)]
 pub struct Seen {
     views: usize,
-    /// A view was over the limit, so that there is no answer.
+    /// Whether a view was over the limit, so that there is no answer.
     pub over: bool,
-    /// The directory's first word, or as much of it as there is, once the directory was read.
+    /// The directory's first word, or as much of it as there is, once the directory is read.
     pub directory: Option<Vec<u8>>,
-    /// How many bytes the directory has, once it was read.
+    /// The length of the directory, once it is read.
     pub directory_size: usize,
-    /// The slices of the last stream that was asked for.
+    /// The slices of the last stream requested.
     pub slices: Vec<SourceSlice>,
 }
 
-/// Whether the stream's own bytes are read. A mapping is an answer even where they are not there.
+/// Whether the stream's own bytes are read. A mapping is an answer even if they are not there.
 #[derive(Clone, Copy, Debug, Eq, PartialEq)]
 pub enum Reading {
     Streams,
@@ -45,7 +45,7 @@ pub struct Watched<'s> {
     seen: Rc<RefCell<Seen>>,
 }
 
-/// A file as pdb opened it, and what it asks for.
+/// A file that pdb opened, and what pdb requests.
 pub struct Open<'s> {
     msf: Box<dyn Msf<'s, Watched<'s>> + 's>,
     seen: Rc<RefCell<Seen>>,
@@ -71,7 +71,7 @@ impl<'s> Open<'s> {
     }
 }
 
-/// pdb's `get` of a stream, over a file that is opened afresh, and what it asked for.
+/// pdb's `get` of a stream, over a newly opened file, and what it requested.
 pub fn get(
     file: &[u8],
     stream: u32,
@@ -112,7 +112,7 @@ impl<'s> Source<'s> for Watched<'s> {
     }
 }
 
-/// Zeros in place of a stream's bytes: pdb wants a view of the right length.
+/// Zeros in place of a stream's bytes: pdb needs a view of the right length.
 struct Unread(Vec<u8>);
 
 impl std::fmt::Debug for Unread {

@@ -1,5 +1,5 @@
-//! The steps of the project's container rules, as far as the list of a stream's bytes speaks of them.
-//! Nothing here asks pdb. A step answers nothing where it, or one before it, refuses.
+//! The steps of the project's container rules, as far as the list of a stream's bytes mentions them.
+//! Nothing here asks pdb. A step returns `None` if it, or one before it, refuses.
 
 use std::ops::Range;
 
@@ -10,10 +10,10 @@ use crate::records::number;
 
 const SMALLEST_PAGE: usize = 0x100;
 const LARGEST_PAGE: usize = 0x80_0000;
-/// How many location entries fit the header block.
+/// The number of location entries that fit the header block.
 pub const MOST_LOCATIONS: usize = (HEADER_BLOCK - ENTRIES) / 4;
 
-/// A file and what its header says.
+/// A file and the words of its header.
 pub struct Header<'f> {
     file: &'f [u8],
     pub page_size: usize,
@@ -89,7 +89,7 @@ pub fn placed(file: &[u8], k: usize) -> Option<Own<'_>> {
     })
 }
 
-/// Steps 7 and 8, and the bytes of the length lie in the file: the stream and this length.
+/// Steps 7 and 8, if the bytes asked for lie in the file: the stream and the length.
 pub fn readable(file: &[u8], k: usize, limit: Option<u64>) -> Option<(Own<'_>, usize)> {
     let own = placed(file, k)?;
     let length = limit.map_or(own.size, |limit| own.size.min(limit as usize));
@@ -133,7 +133,7 @@ impl Header<'_> {
         word(self.file, self.word_place(w))
     }
 
-    /// How many whole words the directory has.
+    /// The number of whole words of the directory.
     pub fn words(&self) -> usize {
         self.directory_size / 4
     }
@@ -142,7 +142,7 @@ impl Header<'_> {
         words <= self.words()
     }
 
-    /// How many streams there are.
+    /// The number of streams.
     pub fn count(&self) -> usize {
         self.directory_word(0)
     }
@@ -165,12 +165,12 @@ impl Header<'_> {
         page(i / self.page_size) * self.page_size + i % self.page_size
     }
 
-    /// So many page numbers are legal.
+    /// Whether the first `count` page numbers are legal.
     fn fit(&self, page: impl Fn(usize) -> usize, count: usize) -> bool {
         (0..count).all(|j| (1..=self.used).contains(&page(j)))
     }
 
-    /// The first `size` bytes of these pages lie in the file.
+    /// Whether the first `size` bytes of these pages lie in the file.
     fn lies_in_file(&self, page: impl Fn(usize) -> usize, size: usize) -> bool {
         (0..need(size, self.page_size))
             .all(|j| page(j) * self.page_size + wanted(self.page_size, size, j) <= self.file.len())
@@ -188,7 +188,7 @@ impl Own<'_> {
     }
 }
 
-/// Of `size` bytes, how many lie in page `j`.
+/// How many of `size` bytes lie in page `j`.
 pub fn wanted(page_size: usize, size: usize, j: usize) -> usize {
     page_size.min(size - j * page_size)
 }
