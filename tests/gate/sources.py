@@ -1,4 +1,4 @@
-"""What the checks of the gate read: the crates' public functions, their must-fail edits, and the tables of docs/PROMISES.md."""
+"""What the gate's checks read: the crates' public functions, their must-fail edits, and the tables of docs/PROMISES.md."""
 import re
 from collections import namedtuple
 from pathlib import Path
@@ -18,10 +18,10 @@ def crate_names():
     return sorted(path.name for path in CRATES.iterdir() if path.is_dir())
 
 
-# ---- functions. `rt fmt --check` holds the layout that this leans on: a clause begins a line, and so does the body's brace.
+# ---- functions. This relies on the layout that `rt fmt --check` checks: a clause begins a line, and so does the body's brace.
 
 def clauses(head, word):
-    """The texts of the clauses that begin with a word, each with its continuation lines."""
+    """The clauses that begin with a word, each with its continuation lines."""
     found, inside = [], False
     for line in head:
         text = line.strip()
@@ -69,13 +69,13 @@ def functions():
 
 
 def promises(function, name):
-    """Whether a clause is a promise by name, or says that the result is a definition by name, under no premise."""
+    """Whether a clause is this promise, or says that the result is this definition, without a premise."""
     promise = re.compile(rf'ensures {{ λ \w+\. ⌜ (?:\w+ ≡ )?{re.escape(name)} [^→]*$')
     return any(promise.match(clause) for clause in function.ensures)
 
 
 def statements_of(function):
-    """The statements that a `proved` promises: each of no premise, and for all that its binders name."""
+    """The statements that a `proved` promises: each without a premise, and for all values of its binders."""
     statement = re.compile(r'ensures { λ r\. ⌜ (?:\((?:\([^():]+ : [^():]+\) )+→ )?([^\s()→]+)[^→]* ⌝ }')
     for clause in function.ensures:
         found = statement.match(clause)
@@ -85,7 +85,7 @@ def statements_of(function):
 # ---- must-fail edits
 
 def edits():
-    """(crate, name) of each edit, and its file."""
+    """The file of each edit, by crate and name."""
     return {(path.parts[-3], path.stem): path for path in sorted(CRATES.glob('*/must-fail/*.edit'))}
 
 
@@ -95,13 +95,13 @@ def expected(path):
     return found[0] if len(found) == 1 else None
 
 
-# ---- docs/PROMISES.md. A table is one of these by the first cell of its head.
+# ---- docs/PROMISES.md. The first cell of a table's head says which table it is.
 
 KINDS = {'Operation': 'operation', 'Statement': 'statement', 'Inner function': 'inner', 'Wrong program': 'wrong'}
 
 
 def words(cell):
-    """What stands between backticks."""
+    """The words between backticks."""
     return re.findall(r'`([^`]+)`', cell)
 
 

@@ -1,4 +1,4 @@
-// Inlined functions inside loops, in the order that gives line deltas below zero: what is inlined last stands first.
+// Inlined functions inside loops, in the order that gives negative line deltas: the last to be inlined comes first.
 volatile int seen;
 
 static inline int clamp(int value, int low, int high)
@@ -42,7 +42,7 @@ __attribute__((always_inline)) static inline int later(int x)
         seen = changed;
         changed ^= 5;
     }
-    // The macro's operands stand on lines of their own.
+    // The macro's operands are on lines of their own.
 #define EITHER(a, b) \
     ((seen & 1) ?    \
          (a) :       \

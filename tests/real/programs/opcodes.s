@@ -1,6 +1,6 @@
 # Inline sites with the annotations that clang does not emit: each of the thirteen opcodes, numbers of each width at the
 # ends of their ranges, long forms of small numbers, both zeros of the signed ones, and no end or bytes after the end.
-# The operand of ChangeFile stays small, since llvm-pdbutil 14 gives up a module where it is past the string table.
+# The operand of ChangeFile is small, since llvm-pdbutil 14 gives up a module if it is past the string table.
 
 	.macro	site annotations:vararg
 	.short	2f - 1f

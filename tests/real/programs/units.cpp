@@ -1,4 +1,4 @@
-// One of many translation units, which UNIT numbers. Unit 0 is the program's own; the others are reached from it or not.
+// One of many translation units, numbered by UNIT. Unit 0 has the entry point; the others may be reached from it or not.
 #include "layers.h"
 
 #define JOIN(a, b) a##b

@@ -1,5 +1,5 @@
-//! A site's annotations, by `step`, in the words of `llvm-pdbutil dump --symbols`: the bytes of each, and what it does to
-//! the code offset and the line offset. Each is also read by `number`, and all of them by `decode`.
+//! A site's annotations, by `step`, in the words of `llvm-pdbutil dump --symbols`: the bytes of each, and its effect on the
+//! code offset and the line offset. Each is also read by `number`, and all of them by `decode`.
 
 use std::fmt::Write;
 
@@ -7,7 +7,7 @@ use trovespan::Step;
 
 use crate::totals::Totals;
 
-/// What llvm-pdbutil keeps while it goes through a site.
+/// llvm-pdbutil's state within a site.
 #[derive(Default)]
 struct State {
     code: u32,
@@ -36,7 +36,7 @@ pub fn write(bytes: &[u8], text: &mut String, totals: &mut Totals) -> Result<(),
     decoded(bytes, &stepped)
 }
 
-/// The annotation is a row of numbers with nothing before, between or after them.
+/// Checks that the annotation is a row of numbers with nothing before, between or after them.
 fn count_widths(bytes: &[u8], at: usize, next: usize, totals: &mut Totals) -> Result<(), String> {
     let mut place = at;
     while place < next {
@@ -51,7 +51,7 @@ fn count_widths(bytes: &[u8], at: usize, next: usize, totals: &mut Totals) -> Re
     Ok(())
 }
 
-/// Decoding all must give what the steps gave.
+/// Checks that decoding all gives what the steps gave.
 fn decoded(bytes: &[u8], stepped: &[i64]) -> Result<(), String> {
     let mut store = vec![0; stepped.len()];
     let count = trovespan::decode(bytes, &mut store);
@@ -70,7 +70,7 @@ impl State {
                 self.code = self.code.wrapping_add(first as u32);
                 said
             }
-            // llvm-pdbutil prints the file's offset and then a place for a name, which it leaves as it stands.
+            // llvm-pdbutil prints the file's offset and then a placeholder for a name, which it does not fill in.
             5 => format!(" setfile {first:X} 0x1"),
             6 => self.line_offset(first),
             7 => format!(" ChangeLineEndDelta {first}"),

@@ -1,4 +1,4 @@
-//! Little-endian numbers, and parts, of bytes that may be too short for them.
+//! Little-endian numbers and parts of bytes that may be too short.
 
 pub fn part(bytes: &[u8], at: usize, size: usize) -> Result<&[u8], String> {
     let end = at.checked_add(size).ok_or("a size that overflows")?;

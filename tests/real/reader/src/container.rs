@@ -7,7 +7,7 @@ use trovespan::{Opened, Refusal};
 
 use crate::totals::Totals;
 
-/// A stream's bytes; none where it is absent.
+/// A stream's bytes, or `None` if it is absent.
 pub type Stream = Option<Vec<u8>>;
 
 pub struct Container<'a> {
@@ -16,7 +16,7 @@ pub struct Container<'a> {
     count: u32,
 }
 
-/// Where a stream lies: the beginning and the size of each slice.
+/// Where a stream is: the beginning and the size of each slice.
 struct Mapping {
     offsets: Vec<u64>,
     sizes: Vec<u64>,
@@ -26,7 +26,7 @@ struct Mapping {
 const STREAM_NOT_FOUND: u32 = 5;
 const NO_ROOM: u32 = 10;
 
-/// The size that the directory has for an absent stream, which llvm-pdbutil prints as it is.
+/// The size of an absent stream in the directory, which llvm-pdbutil prints unchanged.
 const ABSENT: u32 = 0xffff_ffff;
 
 impl<'a> Container<'a> {
@@ -36,7 +36,7 @@ impl<'a> Container<'a> {
         Ok(Container { file, opened, count })
     }
 
-    /// What is said of the container and its streams, and the streams.
+    /// The text about the container and its streams, and the streams.
     pub fn streams(&self, totals: &mut Totals) -> Result<(String, Vec<Stream>), String> {
         let mut text = format!(
             "Block Size: {}\nNumber of blocks: {}\nNumber of streams: {}\n",
@@ -70,7 +70,7 @@ impl<'a> Container<'a> {
         Ok(bytes)
     }
 
-    /// None where the stream is absent. The first call asks how much room is needed.
+    /// `None` if the stream is absent. The first call asks for the room needed.
     fn map(&self, number: u32) -> Result<Option<Mapping>, String> {
         let need = match trovespan::map(self.file, number, None, &mut [], &mut []) {
             Ok(_) => 0,
@@ -86,7 +86,7 @@ impl<'a> Container<'a> {
         Ok(Some(Mapping { offsets, sizes, length: mapped.length }))
     }
 
-    /// The pages that the slices lie in, in order. Only the last slice may end within a page.
+    /// The pages of the slices, in order. Only the last slice may end within a page.
     fn pages(&self, mapping: &Mapping) -> Result<Vec<u64>, String> {
         let page_size = u64::from(self.opened.page_size);
         let mut pages = Vec::new();
@@ -100,7 +100,7 @@ impl<'a> Container<'a> {
         Ok(pages)
     }
 
-    /// The stream's bytes, which must be those of its slices end to end.
+    /// The stream's bytes, which must be those of its slices in order.
     fn extract(&self, number: u32, mapping: &Mapping) -> Result<Vec<u8>, String> {
         let mut bytes = vec![0; mapping.length];
         let length = trovespan::extract(self.file, number, None, &mut bytes).map_err(refused)?;

@@ -1,8 +1,8 @@
-//! `reader OUT FILE...` reads PDB files through the crate, and writes of each what llvm-pdbutil would say of it, into a
-//! folder of its name below OUT: `streams`, the container and each stream's size and pages; `sites`, every inline site
-//! and its annotations; and `stream.N`, the bytes of stream N. Then it prints, as `NAME COUNT` lines, what there was.
+//! `reader OUT FILE...` reads PDB files through the crate, and writes what llvm-pdbutil would say about each into a folder
+//! of its name below OUT: `streams`, the container and each stream's size and pages; `sites`, every inline site and its
+//! annotations; and `stream.N`, the bytes of stream N. Then it prints the totals as `NAME COUNT` lines.
 //!
-//! What it cannot read it does not skip: it stops.
+//! It skips nothing: it stops at what it cannot read.
 
 mod annotations;
 mod bytes;

@@ -3,16 +3,16 @@
 use crate::bytes::{half, part, word};
 
 pub struct Module {
-    /// None where the module has no stream.
+    /// `None` if the module has no stream.
     pub stream: Option<usize>,
-    /// How many bytes of it are symbols, the signature before them included.
+    /// The number of its bytes that are symbols, with the signature before them.
     pub symbols_size: usize,
 }
 
 const HEADER: usize = 64;
 const MODULES_SIZE: usize = 24;
 
-/// Of a module's record: where the stream's number, the size of its symbols and the two names are.
+/// Where a module's record has the stream's number, the size of its symbols and the two names.
 const STREAM: usize = 34;
 const SYMBOLS_SIZE: usize = 36;
 const NAMES: usize = 64;

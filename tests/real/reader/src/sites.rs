@@ -1,5 +1,5 @@
-//! The inline sites of every module, in the words of `llvm-pdbutil dump --symbols`, without its indentation and the names
-//! of what is inlined.
+//! The inline sites of every module, in the words of `llvm-pdbutil dump --symbols`, without its indentation and the
+//! inlinees' names.
 
 use std::fmt::Write;
 
@@ -15,7 +15,7 @@ const INLINE_SITE: u16 = 0x114d;
 /// A site that also says how often it runs. llvm-pdbutil does not print its annotations, so there is nothing to compare.
 const INLINE_SITE_2: u16 = 0x115d;
 
-/// Of a record: where the kind, and where a site's parent, end, inlinee and annotations are.
+/// Where a record has its kind, and a site its parent, end, inlinee and annotations.
 const KIND: usize = 2;
 const PARENT: usize = 4;
 const END: usize = 8;

@@ -1,4 +1,4 @@
-//! What there was in all files together.
+//! The totals over all files.
 
 #[derive(Default)]
 pub struct Totals {
@@ -11,9 +11,9 @@ pub struct Totals {
     pub bytes: usize,
     pub modules: usize,
     pub sites: usize,
-    /// How many annotations have each opcode.
+    /// The number of annotations with each opcode.
     pub opcodes: [usize; 14],
-    /// How many of their numbers, opcodes and operands, have each width in bytes.
+    /// The number of opcodes and operands of each width in bytes.
     pub widths: [usize; 5],
 }
 
