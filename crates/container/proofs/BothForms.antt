@@ -76,8 +76,11 @@ module _ (f : File) (len k : ℕ) (limit : Limit) (offsets sizes : List ℕ) (st
   answered-alike =
       record {
         answer = only mappedIn (told .mapped) _ r r′ (p .answer) (q .answer ∙ rw room);
-        offset = λ m e. entry m e (λ (x : SourceSlice). x .offset) offsets o (omega arith) (p .offsets-after);
-        size = λ m e. entry m e (λ (x : SourceSlice). x .size) sizes t (omega arith) (p .sizes-after);
+        entries = λ m e.
+            record {
+              offset = entry m e (λ (x : SourceSlice). x .offset) offsets o (omega arith) (p .offsets-after);
+              size = entry m e (λ (x : SourceSlice). x .size) sizes t (omega arith) (p .sizes-after);
+            };
       }
 
 pub both-forms : BothForms

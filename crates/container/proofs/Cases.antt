@@ -11,11 +11,11 @@ use Rattle.header.specs.Header.{standsAt, sized, headed, located}
 use Rattle.directory.specs.Directory.{reached}
 use Rattle.stream.specs.Stream as stream
 use Rattle.stream.specs.Stream.{pagesOf, pagesBefore, listed, found}
-use Rattle.slices.specs.Slices.{lengthen, slicesOf, cut, placeOf}
+use Rattle.slices.specs.Slices.{lengthen, slicesOf, cut}
 use Rattle.msf.specs.Msf.{placed, mapping}
 use Rattle.container.specs.FileF.{fileF, F}
-use Rattle.container.specs.Cases.{Cases, mappingOf}
+use Rattle.container.specs.Cases.{Cases, mappingOf, placeInF}
 
 pub cases : Cases
-unfolding mappingOf F fileF _>>=_ _>>_ require each word sizeFits need location directoryPage directoryWord pageFits standsAt sized headed located reached pagesOf pagesBefore stream.sized listed found lengthen slicesOf cut placeOf placed mapping Count.ones Count.onesIn
+unfolding mappingOf placeInF F fileF _>>=_ _>>_ require each word sizeFits need location directoryPage directoryWord pageFits standsAt sized headed located reached pagesOf pagesBefore stream.sized listed found lengthen slicesOf cut placed mapping Count.ones Count.onesIn
 cases = record { size = refl; two = refl; byte = refl; zero = refl; one = refl; three = refl }

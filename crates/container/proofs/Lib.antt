@@ -1,4 +1,5 @@
 pub mod Told
 pub mod Cases
+pub mod FileLaws
 pub mod Statements
 pub mod BothForms

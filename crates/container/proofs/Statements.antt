@@ -1,4 +1,5 @@
--- The statements on the container, each proved under the name of its record.
+-- The statements on the container. An answer that is a value came of an outcome that was accepted, so every stage before it
+-- passed: that gives the stream, its pages, and that its bytes are in the file.
 use mathlib.Core.Path.{_≡_, refl, sym, _∙_, ap}
 use mathlib.Core.List.{List}
 use Prim.Native.Nat.{ℕ, _+_, _*_, _≤_, _<_}
@@ -15,7 +16,9 @@ use Rattle.outcome.proofs.OutcomeLaws.{came, came-by, ok-is, passed}
 use Rattle.outcome.proofs.OnlyLaws.{only, only₂, only₃}
 use Rattle.parse_buffer.specs.Bytes.{File}
 use Rattle.parse_buffer.specs.Parse.{parseU32, parsedIn}
-use Rattle.paged.specs.Pages.{directoryWord, through}
+use Rattle.paged.specs.PageSize.{need}
+use Rattle.paged.specs.Pages.{through}
+use Rattle.paged.specs.Checks.{liesInFile}
 use Rattle.paged.proofs.SizeLaws.{need-covers, need-least, word-in-page}
 use Rattle.header.specs.Promises.{openedIn, opening}
 use Rattle.directory.specs.Directory.{streamCount}
@@ -32,7 +35,8 @@ use Rattle.msf.proofs.CopyLaws.{through-length, through-at, sets-first, sets-be
 use Rattle.msf.proofs.PlaceLaws.{length-most}
 use Rattle.msf.specs.declared.limit.Limit.{Limit}
 use Rattle.msf.specs.declared.to_bytes.Extracted.{Extracted}
-use Rattle.container.specs.Statements.{SingleValued, Extracted-from, TheByte, TheSlices, Pages-needed, Own}
+use Rattle.container.specs.Statements.{SingleValued, Extracted-from, TheByte, TheSlices, Pages-needed, Entries-of, Own}
+use Rattle.container.proofs.FileLaws.{lies-byte}
 use Rattle.container.proofs.Told.{told}
 
 pub single-valued : SingleValued
@@ -65,23 +69,42 @@ placed-at f len k limit {x} e =
       size = rw (← same) refl;
     }
 
+module _ (f : File) (len k : ℕ) (limit : Limit) {x : Placed} (e : placed f len k limit ≡ ok x) where
+  at : Placed-at f len k limit x
+  at = placed-at f len k limit e
+
+  pub large : 0 < x .found .header .size
+  large = let s = reached-size f len (found-at f len k (at .found) .reached) .least in omega arith
+
+  pub held : x .size ≤ ownPages (x .found) * x .found .header .size
+  held =
+      let c = need-covers (x .found .header .size) (x .found .size) large in
+      let m : x .size ≤ x .found .size = rw (at .size) (length-most limit (x .found .size)) in
+      omega arith
+
 -- ---- the byte
+-- what is read lies in the file
+pub record Readable-at (f : File) (len k : ℕ) (limit : Limit) (x : Placed) : Type 0 where
+  pub placed : placed f len k limit ≡ ok x
+  pub lies : liesInFile len (x .found .header .size) (ownPage f (x .found)) (x .size) (need (x .found .header .size) (x .size)) ≡ ok tt
+
+pub readable-at : (f : File) (len k : ℕ) (limit : Limit) {x : Placed} → readable f len k limit ≡ ok x → Readable-at f len k limit x
+unfolding readable
+readable-at f len k limit {x} e =
+    came-by _ _ e λ y p e₁.
+    came _ _ e₁ λ _ l e₂.
+    record { placed = p ∙ e₂; lies = rw (← ok-is e₂) l }
+
 record Extraction-at (f : File) (len k : ℕ) (limit : Limit) (room : ℕ) (x : Placed) : Type 0 where
-  placed : placed f len k limit ≡ ok x
+  readable : readable f len k limit ≡ ok x
   fits : x .size ≤ room
 
 extraction-at : (f : File) (len k : ℕ) (limit : Limit) (room : ℕ) {x : Placed} → extraction f len k limit room ≡ ok x → Extraction-at f len k limit room x
-unfolding extraction readable
+unfolding extraction
 extraction-at f len k limit room {x} e =
     came-by _ _ e λ y r e₁.
     came _ _ e₁ λ _ l e₂.
-    came-by _ _ r λ z p r₁.
-    came _ _ r₁ λ _ _ r₂.
-    let same : y ≡ x = ok-is e₂ in
-    record {
-      placed = p ∙ r₂ ∙ e₂;
-      fits = rw (← same) (leb-true _ _ (passed _ _ l));
-    }
+    record { readable = r ∙ e₂; fits = rw (← ok-is e₂) (leb-true _ _ (passed _ _ l)) }
 
 -- an answer that is a length came of an extraction that was accepted
 accepted : (o : Outcome paper.Refusal Placed) {n : ℕ} → lengthIn o ≡ ok n → (x : Placed) × ((o ≡ ok x) × (x .size ≡ n))
@@ -97,7 +120,8 @@ extracted-from f len k limit out r out′ p n e =
     let is : extraction f len k limit (length out) ≡ ok x = a .1 .0 in
     let size : x .size ≡ n = a .1 .1 in
     let at = extraction-at f len k limit (length out) is in
-    let pl = placed-at f len k limit (at .placed) in
+    let read = readable-at f len k limit (at .readable) in
+    let pl = placed-at f len k limit (read .placed) in
     let fits = at .fits in
     let P : ℕ = x .found .header .size in
     let long : length (bytesIn f x) ≡ x .size = through-length f P (ownPage f (x .found)) (x .size) in
@@ -108,6 +132,8 @@ extracted-from f len k limit out r out′ p n e =
       size = sym size ∙ pl .size;
       byte = λ i h.
           ap (λ (l : List ℕ). getD l i 0) after ∙ sets-first 0 out (bytesIn f x) (omega arith) i (omega arith) ∙ through-at f P (ownPage f (x .found)) (x .size) i (omega arith);
+      inside = λ i h.
+          lies-byte len P (ownPage f (x .found)) (x .size) (large f len k limit (read .placed)) (read .lies) i (omega arith);
       beyond = λ i h. ap (λ (l : List ℕ). getD l i 0) after ∙ sets-beyond 0 out (bytesIn f x) (omega arith) i (omega arith);
     }
 
@@ -123,33 +149,23 @@ mapping-placed f len k limit room e =
     p ∙ e₂
 
 module _ (f : File) (len k : ℕ) (limit : Limit) {x : Placed} (e : placed f len k limit ≡ ok x) where
-  at : Placed-at f len k limit x
-  at = placed-at f len k limit e
-
-  pub large : 0 < x .found .header .size
-  large = let s = reached-size f len (found-at f len k (at .found) .reached) .least in omega arith
-
-  pub held : x .size ≤ ownPages (x .found) * x .found .header .size
-  held =
-      let c = need-covers (x .found .header .size) (x .found .size) large in
-      let m : x .size ≤ x .found .size = rw (at .size) (length-most limit (x .found .size)) in
-      omega arith
-
   is-full : Full (slicesIn f x)
-  is-full = slices-full (x .found .header .size) (ownPage f (x .found)) large (ownPages (x .found)) (x .size) held
+  is-full = slices-full (x .found .header .size) (ownPage f (x .found)) (large f len k limit e) (ownPages (x .found)) (x .size) (held f len k limit e)
 
   pub is-total : total (slicesIn f x) ≡ x .size
-  is-total = slices-total (x .found .header .size) (ownPage f (x .found)) large (ownPages (x .found)) (x .size) held
+  is-total =
+      slices-total (x .found .header .size) (ownPage f (x .found)) (large f len k limit e) (ownPages (x .found)) (x .size) (held f len k limit e)
 
   pub is-place : (i : ℕ) → i < x .size → placeOf (slicesIn f x) i ≡ through (x .found .header .size) (ownPage f (x .found)) i
-  is-place = slices-place (x .found .header .size) (ownPage f (x .found)) large (ownPages (x .found)) (x .size) held
+  is-place =
+      slices-place (x .found .header .size) (ownPage f (x .found)) (large f len k limit e) (ownPages (x .found)) (x .size) (held f len k limit e)
 
 pub the-slices : TheSlices
 the-slices =
     record {
-      full = λ f len k limit room e. is-full f len k limit (mapping-placed f len k limit room e);
-      size = λ f len k limit room e. is-total f len k limit (mapping-placed f len k limit room e);
-      place = λ f len k limit room e. is-place f len k limit (mapping-placed f len k limit room e);
+      is = λ f len k limit room e.
+          let p = mapping-placed f len k limit room e in
+          record { full = is-full f len k limit p; size = is-total f len k limit p; place = is-place f len k limit p };
     }
 
 pub pages-needed : Pages-needed
@@ -170,8 +186,9 @@ first-rises f p count j k h =
     le-ind (λ (m : ℕ). firstOf f p count j ≤ firstOf f p count m) (omega arith)
     (λ m _ l. let e = first-follows f p count m in rw (← add-one m) (omega arith)) k h
 
-found-first : (f : File) (len k : ℕ) {x : Found} → found f len k ≡ ok x → (x .first ≡ firstOf f (x .header .size) (directoryWord f (x .header .size) 0) k) × (ownPages x ≡ pagesOf (x .header .size) (sizeAt f (x .header .size) k))
-found-first f len k e = let x = first-at f len k (found-at f len k e .listed) in (x .first, x .pages)
+entries-of : (f : File) (len k : ℕ) {x : Found} → found f len k ≡ ok x → Entries-of f k x
+entries-of f len k e =
+    let x = first-at f len k (found-at f len k e .listed) in record { first = x .first; pages = x .pages }
 
 pub own : Own
 unfolding pagesOf
@@ -181,5 +198,5 @@ own =
       disjoint = λ f p count j k h. let e = first-follows f p count j in let r = first-rises f p count (j + 1) k (omega arith) in omega arith;
       none = λ p. refl;
       empty = λ p s. let l = s .least in let e = need-least p 0 (omega arith) 0 (omega arith) in omega arith;
-      found = λ f len k e. found-first f len k e;
+      found = λ f len k e. entries-of f len k e;
     }
