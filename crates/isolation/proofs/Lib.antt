@@ -1,10 +1,12 @@
+pub mod PassedLaws
 pub mod Same
+pub mod InPagesLaws
 pub mod NamedExactly
 pub mod StreamSame
 pub mod Stages
+pub mod InFile
 pub mod Isolation
 pub mod Boundary
-pub mod PageZero
 pub mod Corollaries
 pub mod Tight
 pub mod LikeF

@@ -1,5 +1,5 @@
 -- What slices name. Laid end to end they have a byte for each place that they name, and a place for each byte; of a
--- stream's slices, `container` says where its bytes stand.
+-- stream's slices, `container` says where its bytes stand, so in which of its pages.
 use mathlib.Core.Path.{_≡_, sym, _∙_}
 use mathlib.Core.Logic.{⊎-elim}
 use mathlib.Core.List.{List, [], _∷_}
@@ -9,15 +9,18 @@ use borrow.Author.Tests.{lt-ltb, le-ltb}
 use Rattle.outcome.specs.Outcome.{ok}
 use Rattle.outcome.proofs.OutcomeLaws.{below-or}
 use Rattle.parse_buffer.specs.Bytes.{File}
+use Rattle.paged.specs.PageSize.{need}
 use Rattle.paged.specs.Pages.{through}
-use Rattle.stream.specs.Stream.{ownPage}
+use Rattle.paged.proofs.SizeLaws.{need-index, need-least}
+use Rattle.stream.specs.Stream.{ownPage, ownPages}
 use Rattle.slices.specs.Slices.{total, placeOf}
 use Rattle.slices.specs.declared.SourceSlice.{SourceSlice}
 use Rattle.msf.specs.Msf.{Placed, placed, slicesIn}
 use Rattle.msf.specs.declared.limit.Limit.{Limit}
-use Rattle.container.proofs.Statements.{is-total, is-place}
+use Rattle.container.proofs.Statements.{large, held, is-total, is-place}
 use Rattle.isolation.specs.Listed.{Named}
-use Rattle.isolation.specs.NamedExactly.{StreamByte, NamedExactly}
+use Rattle.isolation.specs.NamedExactly.{StreamByte, InPages, NamedExactly}
+use Rattle.isolation.proofs.InPagesLaws.{byte-in-pages}
 
 -- ---- slices laid end to end
 named : (xs : List SourceSlice) (i : ℕ) → i < total xs → Named xs (placeOf xs i)
@@ -64,8 +67,22 @@ module _ (f : File) (len k : ℕ) (limit : Limit) {x : Placed} (p : placed f len
       let l : b .index < x .size = rw (is-total f len k limit p) at (b .below) in
       record { index = b .index; below = l; at = sym (b .at) ∙ is-place f len k limit p (b .index) l }
 
-pub named-exactly : NamedExactly
-named-exactly =
+  -- the pages that hold what is asked for are among the stream's own
+  pub few : need (x .found .header .size) (x .size) ≤ ownPages (x .found)
+  few =
+      need-least (x .found .header .size) (x .size) (large f len k limit p) (ownPages (x .found)) (held f len k limit p)
+
+  pub named-in-pages : (i : ℕ) → Named (slicesIn f x) i → InPages (x .found .header .size) (ownPage f (x .found)) (ownPages (x .found)) i
+  named-in-pages i n =
+      let b = stream-byte i n in
+      let pos = large f len k limit p in
+      let l = need-index (x .found .header .size) (x .size) pos (b .index) (b .below) in
+      let m = few in
+      rw (b .at) (byte-in-pages (x .found .header .size) (ownPage f (x .found)) (ownPages (x .found)) pos (b .index) (omega arith))
+
+pub named-exactly : (f : File) (len k : ℕ) (limit : Limit) → NamedExactly f len k limit
+named-exactly f len k limit =
     record {
-      is = λ f len k limit p i. (stream-byte f len k limit p i, λ b. rw (b .at) (is-named f len k limit p (b .index) (b .below)));
+      is = λ p i. (stream-byte f len k limit p i, λ b. rw (b .at) (is-named f len k limit p (b .index) (b .below)));
+      in-pages = λ p i n. named-in-pages f len k limit p i n;
     }

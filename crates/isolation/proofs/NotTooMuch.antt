@@ -30,7 +30,7 @@ use Rattle.isolation.specs.Listed.{entryPlace, wordPlace, ListedOpen, Li
 use Rattle.isolation.specs.Tight.{changed, Within, startF, streamZero, streamTwo, NotListed, NotTooMuch}
 use Rattle.isolation.proofs.NamedExactly.{stream-byte}
 use Rattle.isolation.proofs.StreamSame.{placed-found, placed-size, readable-placed}
-use Rattle.isolation.proofs.Corollaries.{page-zero, no-free-map, no-reserved}
+use Rattle.isolation.proofs.Corollaries.{first-256, no-free-map, no-reserved}
 use Rattle.isolation.proofs.LikeF.{Like, likeF, like-short, header-is, one-location, entry-at, word-at, listed-is, is-0, not-1, is-2, place-0, place-2, last-2}
 
 -- ---- what a listed byte is, where the directory has n bytes
@@ -209,8 +209,8 @@ not-too-much =
       stream-1 = λ limit i x. parts-1 limit i (list 1 limit i x);
       not-below = λ k limit l i x. parts-more k limit l i (list k limit i x);
       not-held = not-held;
-      free-page-map = λ k i l m limit x. no-free-map F 6144 i (likeF .big) l m (page-zero F 6144 k limit i (omega arith) x);
-      reserved = λ k i l m limit x. no-reserved F 6144 i l m (page-zero F 6144 k limit i (omega arith) x);
+      free-page-map = λ k i l m limit x. no-free-map F 6144 i (likeF .big) l m (first-256 F 6144 k limit i (omega arith) x);
+      reserved = λ k i l m limit x. no-reserved F 6144 i l m (first-256 F 6144 k limit i (omega arith) x);
       sizes-after = λ i l m limit x. beside (streamZero 300) i l m refl refl (parts-0 limit _ (length-most limit 300) i (list 0 limit i x));
       entries-of-0 = λ i l m limit x. beside (streamTwo 600) i l m refl refl (parts-2 limit _ (length-most limit 600) i (list 2 limit i x));
       entries-of-2 = λ i l m limit x. beside (streamZero 300) i l m refl refl (parts-0 limit _ (length-most limit 300) i (list 0 limit i x));

@@ -11,7 +11,7 @@ use native.Mathlib.Omega.{arith}
 use borrow.Author.Tests.{leb-true, le-leb}
 use Rattle.outcome.specs.Outcome.{Outcome, ok, refused, _>>=_, _>>_, require}
 use Rattle.outcome.specs.Store.{written}
-use Rattle.outcome.proofs.OutcomeLaws.{below-or, passed, came, came-by, ok-is}
+use Rattle.outcome.proofs.OutcomeLaws.{below-or, passed}
 use Rattle.outcome.proofs.EachLaws.{each-same}
 use Rattle.parse_buffer.specs.Bytes.{File}
 use Rattle.parse_buffer.proofs.WordLaws.{word-same}
@@ -25,8 +25,8 @@ use Rattle.header.specs.declared.Header.{Header}
 use Rattle.header.proofs.BlockLaws.{stands-same}
 use Rattle.header.proofs.OpenLaws.{is-located}
 use Rattle.directory.specs.Directory.{words, holds, reached, streamCount}
-use Rattle.directory.proofs.DirectoryLaws.{reached-located, reached-size}
-use Rattle.isolation.specs.Listed.{InWord, wordPlace, ListedOpen, ListedCount, Agree}
+use Rattle.isolation.specs.Listed.{InWord, wordPlace, listLies, ListedOpen, ListedCount, Agree}
+use Rattle.isolation.proofs.PassedLaws.{reached-at}
 
 -- ---- what holds of any stage
 pub bind-same : {E A B : Type 0} {x y : Outcome E A} {k l : A → Outcome E B} → x ≡ y → ((a : A) → x ≡ ok a → k a ≡ l a) → x >>= k ≡ y >>= l
@@ -104,21 +104,11 @@ module _ (f g : File) (len : ℕ) (agree : Agree (ListedOpen f len) f g) where
       location-listed (x .headed) j (omega arith)
 
 -- ---- the stream count
-pub reached-inside : (f : File) (len : ℕ) {h : Header} → reached f len ≡ ok h → liesInFile len (h .size) (location f) (4 * directoryPages h) (locationPages h) ≡ ok tt
-unfolding reached
-reached-inside f len {h} e =
-    came-by _ _ e λ h₀ _ e₁.
-    came _ _ e₁ λ _ inside e₂.
-    came _ _ e₂ λ _ _ e₃.
-    came _ _ e₃ λ _ _ e₄.
-    let same : h₀ ≡ h = ok-is e₄ in
-    rw (← same) inside
-
 module _ (f g : File) (len : ℕ) (agree : Agree (ListedCount f len) f g) where
   opens : Agree (ListedOpen f len) f g
   opens i l = agree i (ListedCount.opening l)
 
-  module _ {h : Header} (o : located f len ≡ ok h) (inside : liesInFile len (h .size) (location f) (4 * directoryPages h) (locationPages h) ≡ ok tt) where
+  module _ {h : Header} (o : located f len ≡ ok h) (inside : listLies f len h ≡ ok tt) where
     entry-same : (j : ℕ) → j < directoryPages h → directoryPage f (h .size) j ≡ directoryPage g (h .size) j
     unfolding directoryPage
     entry-same j l =
@@ -141,8 +131,9 @@ module _ (f g : File) (len : ℕ) (agree : Agree (ListedCount f len) f g) where
     pub held-same : (w : ℕ) → w < words h → ((i : ℕ) → InWord (wordPlace f h w) i → f i ≡ g i) → directoryWord f (h .size) w ≡ directoryWord g (h .size) w
     unfolding directoryWord
     held-same w t same =
-        let s = reached-size f len d .least in
-        rw (← entry-same (reached-located f len d) (reached-inside f len d) (4 * w / h .size) (need-index (h .size) (h .directory) (omega arith) (4 * w) (omega arith)))
+        let at = reached-at f len d in
+        let s = at .size .least in
+        rw (← entry-same (at .located) (at .list) (4 * w / h .size) (need-index (h .size) (h .directory) (omega arith) (4 * w) (omega arith)))
         (word-same λ i a b. same i (omega arith))
 
     pub count-same : holds h 1 ≡ true → directoryWord f (h .size) 0 ≡ directoryWord g (h .size) 0

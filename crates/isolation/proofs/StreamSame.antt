@@ -7,9 +7,8 @@ use borrow.Author.Tests.{leb-true, ltb-true, le-leb}
 use Rattle.outcome.specs.Outcome.{ok, _>>=_, _>>_}
 use Rattle.outcome.proofs.OutcomeLaws.{passed, came, came-by, ok-is}
 use Rattle.parse_buffer.specs.Bytes.{File}
-use Rattle.paged.specs.PageSize.{need}
 use Rattle.paged.specs.Pages.{through, directoryWord}
-use Rattle.paged.proofs.SizeLaws.{need-index, need-least}
+use Rattle.paged.proofs.SizeLaws.{need-index}
 use Rattle.header.specs.declared.Header.{Header}
 use Rattle.directory.specs.Directory.{words, reached}
 use Rattle.stream.specs.Stream.{sizeAt, pagesBefore, ownPage, ownPages, sized, listed, found}
@@ -19,9 +18,9 @@ use Rattle.stream.proofs.FindLaws.{listed-at, found-at}
 use Rattle.slices.specs.Slices.{continues, slicesOf}
 use Rattle.msf.specs.Msf.{lengthOf, Placed, placed, slicesIn, mapping, bytesThrough, bytesIn, readable, extraction}
 use Rattle.msf.specs.declared.limit.Limit.{Limit}
-use Rattle.container.proofs.Statements.{mapping-placed, large, held}
+use Rattle.container.proofs.Statements.{mapping-placed, large, readable-at}
 use Rattle.isolation.specs.Listed.{ListedCount, Listed, ListedBytes, Agree}
-use Rattle.isolation.proofs.NamedExactly.{is-named}
+use Rattle.isolation.proofs.NamedExactly.{is-named, few}
 use Rattle.isolation.proofs.Same.{bind-same, then-same, check-same, lies-same, reached-same, held-same, count-same}
 
 -- ---- the slices of equal pages
@@ -46,17 +45,8 @@ module _ (f : File) (len k : ℕ) (limit : Limit) {x : Placed} where
   unfolding placed
   placed-size p = came-by _ _ p λ y _ e₁. rw (← ok-is e₁) refl
 
-  -- the pages that hold what is asked for are among the stream's own
-  pub few : placed f len k limit ≡ ok x → need (x .found .header .size) (x .size) ≤ ownPages (x .found)
-  few p =
-      need-least (x .found .header .size) (x .size) (large f len k limit p) (ownPages (x .found)) (held f len k limit p)
-
   pub readable-placed : readable f len k limit ≡ ok x → placed f len k limit ≡ ok x
-  unfolding readable
-  readable-placed e =
-      came-by _ _ e λ y p e₁.
-      came _ _ e₁ λ _ _ e₂.
-      p ∙ e₂
+  readable-placed e = readable-at f len k limit e .placed
 
 -- ---- mapping
 module _ (f g : File) (len k : ℕ) (agree : Agree (Listed f len k) f g) where

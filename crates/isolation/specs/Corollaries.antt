@@ -2,52 +2,63 @@
 use mathlib.Core.Path.{_≡_}
 use mathlib.Core.Bool.{true}
 use mathlib.Core.List.{List}
-use Prim.Native.Nat.{ℕ, _+_, _*_, _≤_, _<_}
+use Prim.Native.Nat.{ℕ, _+_, _*_, min, _≤_, _<_}
 use Rattle.outcome.specs.Outcome.{ok}
 use Rattle.parse_buffer.specs.Bytes.{File}
-use Rattle.header.specs.Header.{bigMagic, standsAt}
+use Rattle.paged.specs.Pages.{firstEntry, location, directoryPage}
+use Rattle.header.specs.Header.{bigMagic, standsAt, entries, directoryPages, locationPages, headed, located}
 use Rattle.header.specs.Promises.{Opening}
-use Rattle.header.specs.declared.Opened.{Opened}
+use Rattle.header.specs.declared.Header.{Header}
+use Rattle.directory.specs.Directory.{reached}
 use Rattle.directory.specs.Promises.{Counting}
-use Rattle.directory.specs.declared.Counted.{Counted}
 use Rattle.stream.specs.Stream.{ownPage, ownPages, found}
 use Rattle.stream.specs.declared.Found.{Found}
 use Rattle.slices.specs.declared.SourceSlice.{SourceSlice}
 use Rattle.msf.specs.Promises.{Maps, Extracts}
 use Rattle.msf.specs.declared.limit.Limit.{Limit}
-use Rattle.msf.specs.declared.to_slices.Mapping.{Mapping}
-use Rattle.msf.specs.declared.to_bytes.Extracted.{Extracted}
 use Rattle.slice_store.specs.Promises.{MapsInto}
-use Rattle.isolation.specs.Listed.{ListedOpen, ListedBytes}
+use Rattle.isolation.specs.Listed.{ListedOpen, Listed, ListedBytes}
+use Rattle.isolation.specs.NamedExactly.{InPages}
+use Rattle.isolation.specs.Isolation.{Equal, Equal₂, Equal₃}
 
 -- no operation tells the files apart when asked for stream k
 pub record Alike (f g : File) (len k : ℕ) (limit : Limit) : Type 0 where
-  pub opening : (r r′ : Opened) → Opening f len r → Opening g len r′ → r ≡ r′
-  pub stream-count : (r r′ : Counted) → Counting f len r → Counting g len r′ → r ≡ r′
-  pub map : (offsets sizes : List ℕ) (r r′ : Mapping) (o o′ t t′ : List ℕ) → Maps f len k limit offsets sizes r o t → Maps g len k limit offsets sizes r′ o′ t′ → (r ≡ r′) × (o ≡ o′) × (t ≡ t′)
-  pub extract : (out : List ℕ) (r r′ : Extracted) (o o′ : List ℕ) → Extracts f len k limit out r o → Extracts g len k limit out r′ o′ → (r ≡ r′) × (o ≡ o′)
-  pub map-into : (store : List SourceSlice) (r r′ : Mapping) (s s′ : List SourceSlice) → MapsInto f len k limit store r s → MapsInto g len k limit store r′ s′ → (r ≡ r′) × (s ≡ s′)
+  pub opening : Equal (Opening f len) (Opening g len)
+  pub stream-count : Equal (Counting f len) (Counting g len)
+  pub map : (offsets sizes : List ℕ) →
+      Equal₃ (Maps f len k limit offsets sizes) (Maps g len k limit offsets sizes)
+  pub extract : (out : List ℕ) → Equal₂ (Extracts f len k limit out) (Extracts g len k limit out)
+  pub map-into : (store : List SourceSlice) → Equal₂ (MapsInto f len k limit store) (MapsInto g len k limit store)
 
 -- the files differ at places of this kind alone
 abbrev pub DifferOnlyAt : (ℕ → Type 0) → File → File → Type 0
 DifferOnlyAt Place f g = (i : ℕ) → (Place i → ⊥) → f i ≡ g i
 
--- byte i is in one of the pages of stream j
-pub record InPagesOf (f : File) (len j i : ℕ) : Type 0 where
-  pub stream : Found
-  pub is : found f len j ≡ ok stream
-  pub page : ℕ
-  pub below : page < ownPages stream
-  pub from : ownPage f stream page * stream .header .size ≤ i
-  pub to : i < ownPage f stream page * stream .header .size + stream .header .size
+-- byte i is past the location entries, and in no page of the location list or of the directory. The pages of a stage
+-- count only if it is reached
+pub record OffTheLists (f : File) (len : ℕ) (h : Header) (i : ℕ) : Type 0 where
+  pub past-entries : firstEntry + 4 * min (locationPages h) entries ≤ i
+  pub no-list : located f len ≡ ok h → InPages (h .size) (location f) (locationPages h) i → ⊥
+  pub no-directory : reached f len ≡ ok h → InPages (h .size) (directoryPage f (h .size)) (directoryPages h) i → ⊥
 
-pub record Corollaries : Type 0 where
+-- and in no page of stream k
+pub record Elsewhere (f : File) (len k : ℕ) (h : Header) (i : ℕ) : Type 0 where
+  pub off-the-lists : OffTheLists f len h i
+  pub no-own : {x : Found} → found f len k ≡ ok x → InPages (x .header .size) (ownPage f x) (ownPages x) i → ⊥
+
+pub record Corollaries (f g : File) (len k : ℕ) (limit : Limit) : Type 0 where
   -- changing any byte that is not listed for k changes nothing for k
-  pub unlisted : (f g : File) (len k : ℕ) (limit : Limit) (at : ℕ) → (ListedBytes f len k limit at → ⊥) → DifferOnlyAt (λ i. i ≡ at) f g → Alike f g len k limit
-  -- so in particular bytes of another stream's pages that are not listed for k
-  pub other-stream : (f g : File) (len k : ℕ) (limit : Limit) (j at : ℕ) → InPagesOf f len j at → (ListedBytes f len k limit at → ⊥) → DifferOnlyAt (λ i. i ≡ at) f g → Alike f g len k limit
+  pub unlisted : (at : ℕ) → (ListedBytes f len k limit at → ⊥) → DifferOnlyAt (λ i. i ≡ at) f g → Alike f g len k limit
+  -- where the page size passes: a byte that is off the lists is not listed for mapping k, whatever k is. (Page 0 is no
+  -- page of a list, so nothing is asked of its bytes past the location entries)
+  pub off-the-lists : {h : Header} → headed f len ≡ ok h → (i : ℕ) → OffTheLists f len h i → Listed f len k i → ⊥
+  -- one that is not in k's own pages either is not listed for k at all; so changing any such bytes, those of another
+  -- stream's pages among them, changes nothing for k
+  pub elsewhere : {h : Header} → headed f len ≡ ok h → (i : ℕ) → Elsewhere f len k h i → ListedBytes f len k limit i → ⊥
+  pub other-stream : {h : Header} → headed f len ≡ ok h → DifferOnlyAt (Elsewhere f len k h) f g → Alike f g len k limit
   -- page 0 holds nothing but the header: of its bytes only those that opening reads are listed
-  pub page-zero : (f : File) (len k : ℕ) (limit : Limit) (i : ℕ) → i < 256 → ListedBytes f len k limit i → ListedOpen f len i
+  pub page-zero : {h : Header} → headed f len ≡ ok h → (i : ℕ) → i < h .size →
+      ListedBytes f len k limit i → ListedOpen f len i
   -- under the big magic, changing free_page_map changes nothing; nor does changing reserved, under any
-  pub free-page-map : (f g : File) (len k : ℕ) (limit : Limit) → standsAt f 0 bigMagic ≡ true → DifferOnlyAt (λ i. (36 ≤ i) × (i < 40)) f g → Alike f g len k limit
-  pub reserved : (f g : File) (len k : ℕ) (limit : Limit) → DifferOnlyAt (λ i. (48 ≤ i) × (i < 52)) f g → Alike f g len k limit
+  pub free-page-map : standsAt f 0 bigMagic ≡ true → DifferOnlyAt (λ i. (36 ≤ i) × (i < 40)) f g → Alike f g len k limit
+  pub reserved : DifferOnlyAt (λ i. (48 ≤ i) × (i < 52)) f g → Alike f g len k limit

@@ -1,6 +1,7 @@
 pub mod Listed
 pub mod NamedExactly
 pub mod Stages
+pub mod InFile
 pub mod Isolation
 pub mod Boundary
 pub mod Corollaries

@@ -4,7 +4,8 @@ use mathlib.Core.Path.{_≡_}
 use mathlib.Core.Bool.{true, false}
 use mathlib.Core.List.{List, _∷_}
 use Prim.Native.Nat.{ℕ, _+_, _*_, min, _≤_, _<_}
-use Rattle.outcome.specs.Outcome.{ok}
+use Rattle.outcome.specs.Outcome.{Outcome, ok}
+use Rattle.outcome.specs.Refusal as paper
 use Rattle.parse_buffer.specs.Bytes.{File}
 use Rattle.paged.specs.Pages.{through, firstEntry, location, directoryPage, directoryWord}
 use Rattle.paged.specs.Checks.{liesInFile}
@@ -28,9 +29,14 @@ entryPlace f h j = through (h .size) (location f) (4 * j)
 abbrev pub wordPlace : File → Header → ℕ → ℕ
 wordPlace f h w = through (h .size) (directoryPage f (h .size)) (4 * w)
 
+-- whether the location list lies in the file (refusal 6)
+abbrev pub listLies : File → ℕ → Header → Outcome paper.Refusal (Unit {0})
+listLies f len h = liesInFile len (h .size) (location f) (4 * directoryPages h) (locationPages h)
+
 -- i is a place that one of the slices names
 pub data Named : List SourceSlice → ℕ → Type 0 where
-  here : {i : ℕ} {s : SourceSlice} {rest : List SourceSlice} → s .offset ≤ i → i < s .offset + s .size → Named (s ∷ rest) i
+  here : {i : ℕ} {s : SourceSlice} {rest : List SourceSlice} → s .offset ≤ i → i < s .offset + s .size →
+      Named (s ∷ rest) i
   there : {i : ℕ} {s : SourceSlice} {rest : List SourceSlice} → Named rest i → Named (s ∷ rest) i
 
 -- opening
@@ -41,23 +47,28 @@ pub data ListedOpen (f : File) (len : ℕ) : ℕ → Type 0 where
   -- and 36 to 39 too where bytes 0 to 31 are not the big magic
   small : {i : ℕ} → standsAt f 0 bigMagic ≡ false → 36 ≤ i → i < 40 → ListedOpen f len i
   -- the location entries in the header block, if the page size passes
-  locations : {i j : ℕ} {h : Header} → headed f len ≡ ok h → j < min (locationPages h) entries → InWord (firstEntry + 4 * j) i → ListedOpen f len i
+  locations : {i j : ℕ} {h : Header} → headed f len ≡ ok h → j < min (locationPages h) entries →
+      InWord (firstEntry + 4 * j) i → ListedOpen f len i
 
 -- the stream count
 pub data ListedCount (f : File) (len : ℕ) : ℕ → Type 0 where
   opening : {i : ℕ} → ListedOpen f len i → ListedCount f len i
   -- then, if that stage is reached (and the list lies in the file), the location list
-  list : {i j : ℕ} {h : Header} → located f len ≡ ok h → liesInFile len (h .size) (location f) (4 * directoryPages h) (locationPages h) ≡ ok tt → j < directoryPages h → InWord (entryPlace f h j) i → ListedCount f len i
+  list : {i j : ℕ} {h : Header} → located f len ≡ ok h → listLies f len h ≡ ok tt → j < directoryPages h →
+      InWord (entryPlace f h j) i → ListedCount f len i
   -- of the directory the count, if it holds it
-  count : {i : ℕ} {h : Header} → reached f len ≡ ok h → holds h 1 ≡ true → InWord (wordPlace f h 0) i → ListedCount f len i
+  count : {i : ℕ} {h : Header} → reached f len ≡ ok h → holds h 1 ≡ true →
+      InWord (wordPlace f h 0) i → ListedCount f len i
 
 -- mapping stream k
 pub data Listed (f : File) (len k : ℕ) : ℕ → Type 0 where
   counting : {i : ℕ} → ListedCount f len i → Listed f len k i
   -- sizes 0 to k (as many as it holds; only the count if k is not below it)
-  sizes : {i j : ℕ} {h : Header} → reached f len ≡ ok h → k < directoryWord f (h .size) 0 → j ≤ k → holds h (2 + j) ≡ true → InWord (wordPlace f h (1 + j)) i → Listed f len k i
+  sizes : {i j : ℕ} {h : Header} → reached f len ≡ ok h → k < directoryWord f (h .size) 0 → j ≤ k →
+      holds h (2 + j) ≡ true → InWord (wordPlace f h (1 + j)) i → Listed f len k i
   -- and k's own page entries as many as it holds
-  pages : {i j : ℕ} {x : Found} → listed f len k ≡ ok x → j < ownPages x → holds (x .header) (x .first + j + 1) ≡ true → InWord (wordPlace f (x .header) (x .first + j)) i → Listed f len k i
+  pages : {i j : ℕ} {x : Found} → listed f len k ≡ ok x → j < ownPages x →
+      holds (x .header) (x .first + j + 1) ≡ true → InWord (wordPlace f (x .header) (x .first + j)) i → Listed f len k i
 
 -- extracting it
 pub data ListedBytes (f : File) (len k : ℕ) (limit : Limit) : ℕ → Type 0 where

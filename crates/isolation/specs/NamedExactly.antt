@@ -2,11 +2,11 @@
 -- no more: byte j of stream k, for each j below the answered length, stands at page (j / P) * P + j mod P.
 use mathlib.Core.Path.{_≡_}
 use mathlib.Core.Logic.{_↔_}
-use Prim.Native.Nat.{ℕ, _<_}
+use Prim.Native.Nat.{ℕ, _+_, _*_, _≤_, _<_}
 use Rattle.outcome.specs.Outcome.{ok}
 use Rattle.parse_buffer.specs.Bytes.{File}
 use Rattle.paged.specs.Pages.{through}
-use Rattle.stream.specs.Stream.{ownPage}
+use Rattle.stream.specs.Stream.{ownPage, ownPages}
 use Rattle.msf.specs.Msf.{Placed, placed, slicesIn}
 use Rattle.msf.specs.declared.limit.Limit.{Limit}
 use Rattle.isolation.specs.Listed.{Named}
@@ -17,6 +17,15 @@ pub record StreamByte (f : File) (x : Placed) (i : ℕ) : Type 0 where
   pub below : index < x .size
   pub at : i ≡ through (x .found .header .size) (ownPage f (x .found)) index
 
-pub record NamedExactly : Type 0 where
-  pub is : (f : File) (len k : ℕ) (limit : Limit) {x : Placed} → placed f len k limit ≡ ok x → (i : ℕ) →
-      Named (slicesIn f x) i ↔ StreamByte f x i
+-- i is a byte of one of the first n of these pages, which have p bytes each
+pub record InPages (p : ℕ) (page : ℕ → ℕ) (n i : ℕ) : Type 0 where
+  pub index : ℕ
+  pub below : index < n
+  pub from : page index * p ≤ i
+  pub to : i < page index * p + p
+
+pub record NamedExactly (f : File) (len k : ℕ) (limit : Limit) : Type 0 where
+  pub is : {x : Placed} → placed f len k limit ≡ ok x → (i : ℕ) → Named (slicesIn f x) i ↔ StreamByte f x i
+  -- so each lies in one of the stream's own pages
+  pub in-pages : {x : Placed} → placed f len k limit ≡ ok x → (i : ℕ) → Named (slicesIn f x) i →
+      InPages (x .found .header .size) (ownPage f (x .found)) (ownPages (x .found)) i

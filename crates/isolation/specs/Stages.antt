@@ -3,18 +3,16 @@
 -- list all that later stages read, whatever the file, the stream and the limit.
 use mathlib.Core.Path.{_≡_}
 use mathlib.Core.Logic.{_⊎_}
-use Prim.Native.Nat.{ℕ, _*_, _<_}
+use Prim.Native.Nat.{ℕ, _<_}
 use Rattle.outcome.specs.Outcome.{ok, refused}
 use Rattle.outcome.specs.Refusal as paper
 use Rattle.parse_buffer.specs.Bytes.{File}
-use Rattle.paged.specs.Pages.{location}
-use Rattle.paged.specs.Checks.{liesInFile}
-use Rattle.header.specs.Header.{headerBlock, directoryPages, locationPages, headed, located}
+use Rattle.header.specs.Header.{headerBlock, directoryPages, headed, located}
 use Rattle.header.specs.declared.Header.{Header}
 use Rattle.directory.specs.Directory.{reached}
 use Rattle.msf.specs.Msf.{readable}
 use Rattle.msf.specs.declared.limit.Limit.{Limit}
-use Rattle.isolation.specs.Listed.{InWord, entryPlace, ListedOpen, Listed, ListedBytes}
+use Rattle.isolation.specs.Listed.{InWord, entryPlace, listLies, ListedOpen, Listed, ListedBytes}
 
 -- i is a byte of the location list
 pub record OnList (f : File) (len i : ℕ) : Type 0 where
@@ -32,7 +30,7 @@ pub record Stages (f : File) (len k : ℕ) (limit : Limit) (i : ℕ) : Type 0 wh
   pub location-refused : {why : paper.Refusal} → located f len ≡ refused why →
       ListedBytes f len k limit i → ListedOpen f len i
   pub list-ends : {h : Header} {why : paper.Refusal} → located f len ≡ ok h →
-      liesInFile len (h .size) (location f) (4 * directoryPages h) (locationPages h) ≡ refused why →
+      listLies f len h ≡ refused why →
       ListedBytes f len k limit i → ListedOpen f len i
   -- a page of the directory is refused, or the directory is not all in the file
   pub directory-refused : {why : paper.Refusal} → reached f len ≡ refused why →

@@ -11,12 +11,13 @@ use Rattle.outcome.specs.Refusal as paper
 use Rattle.parse_buffer.specs.Bytes.{File, byteAt}
 use Rattle.header.specs.Header.{smallMagic}
 use Rattle.header.specs.Promises.{opening}
+use Rattle.header.specs.declared.Container.{Container}
 use Rattle.directory.specs.Directory.{streamCount}
 use Rattle.msf.specs.Msf.{lengthOf, bytesIn, extraction}
 use Rattle.msf.specs.declared.limit.Limit.{Limit}
 use Rattle.msf.specs.declared.limit.Limit.the-variants.{None, AtMost}
 use Rattle.container.specs.FileF.{F}
-use Rattle.container.specs.Cases.{mappingOf, at}
+use Rattle.container.specs.Cases.{Answer, mappingOf, at}
 use Rattle.isolation.specs.Listed.{ListedBytes}
 
 -- a file with another byte at one place
@@ -36,17 +37,28 @@ firstByte f = do
   x ← extraction f 6144 2 (AtMost 1) 1
   ok (bytesIn f x)
 
+-- what opening F answers, and mapping its stream 2
+abbrev openedF : Outcome paper.Refusal Container
+openedF = ok (record { size = 256; used = 24 })
+
+abbrev twoF : Outcome paper.Refusal Answer
+twoF = ok (record { slices = at 2560 512 ∷ at 1280 88 ∷ []; size = 600 })
+
+-- with page 9 for page 10
+abbrev twoChanged : Outcome paper.Refusal Answer
+twoChanged = ok (record { slices = at 2304 256 ∷ at 2816 256 ∷ at 1280 88 ∷ []; size = 600 })
+
 -- each item: the answer of the file, and of the file changed
 pub record Tight : Type 0 where
-  pub start : (opening F 6144 ≡ ok (record { size = 256; used = 24 })) × (opening (changed F 0 0) 6144 ≡ refusal 1 0)
-  pub fields : (opening F 6144 ≡ ok (record { size = 256; used = 24 })) × (opening (changed F 40 2) 6144 ≡ refusal 4 3)
+  pub start : (opening F 6144 ≡ openedF) × (opening (changed F 0 0) 6144 ≡ refusal 1 0)
+  pub fields : (opening F 6144 ≡ openedF) × (opening (changed F 40 2) 6144 ≡ refusal 4 3)
   pub small : (opening small 6144 ≡ refusal 2 0) × (opening (changed small 36 0) 6144 ≡ refusal 1 0)
-  pub locations : (opening F 6144 ≡ ok (record { size = 256; used = 24 })) × (opening (changed F 52 25) 6144 ≡ refusal 4 25)
+  pub locations : (opening F 6144 ≡ openedF) × (opening (changed F 52 25) 6144 ≡ refusal 4 25)
   pub list : (streamCount F 6144 ≡ ok 3) × (streamCount (changed F 768 0) 6144 ≡ refusal 4 0)
   pub count : (streamCount F 6144 ≡ ok 3) × (streamCount (changed F 1024 2) 6144 ≡ ok 2)
   -- size 0, for stream 2: with 556 bytes it has a page more, and stream 2's entries begin one later
-  pub sizes : (mappingOf F 2 ≡ ok (record { slices = at 2560 512 ∷ at 1280 88 ∷ []; size = 600 })) × (mappingOf (changed F 1029 2) 2 ≡ refusal 7 0)
-  pub pages : (mappingOf F 2 ≡ ok (record { slices = at 2560 512 ∷ at 1280 88 ∷ []; size = 600 })) × (mappingOf (changed F 1048 9) 2 ≡ ok (record { slices = at 2304 256 ∷ at 2816 256 ∷ at 1280 88 ∷ []; size = 600 }))
+  pub sizes : (mappingOf F 2 ≡ twoF) × (mappingOf (changed F 1029 2) 2 ≡ refusal 7 0)
+  pub pages : (mappingOf F 2 ≡ twoF) × (mappingOf (changed F 1048 9) 2 ≡ twoChanged)
   pub bytes : (firstByte F ≡ ok (0 ∷ [])) × (firstByte (changed F 2560 7) ≡ ok (7 ∷ []))
 
 -- i is in one of these ranges; each has its first byte and the one after its last
