@@ -2,7 +2,7 @@
 -- reads, or stands in a page of the location list, of the directory or of the stream, which is not page 0.
 use mathlib.Core.Path.{_≡_, sym, _∙_}
 use mathlib.Core.Bool.{true}
-use Prim.Native.Nat.{ℕ, _+_, _*_, _/_, min, _≤_, _<_}
+use Prim.Native.Nat.{ℕ, _+_, _*_, min, _≤_, _<_}
 use native.Mathlib.Omega.{arith}
 use Rattle.outcome.specs.Outcome.{ok}
 use Rattle.outcome.proofs.OutcomeLaws.{ok-is}
@@ -14,8 +14,7 @@ use Rattle.header.specs.declared.Header.{Header}
 use Rattle.header.proofs.HeaderLaws.{headed-size}
 use Rattle.header.proofs.OpenLaws.{is-located}
 use Rattle.directory.specs.Directory.{reached}
-use Rattle.stream.specs.Stream.{ownPage, ownPages, found}
-use Rattle.stream.specs.declared.Found.{Found}
+use Rattle.stream.specs.Stream.{ownPage, ownPages}
 use Rattle.stream.proofs.FindLaws.{found-at}
 use Rattle.msf.specs.declared.limit.Limit.{Limit}
 use Rattle.isolation.specs.Listed.{ListedOpen, ListedCount, Listed, ListedBytes, Agree}

@@ -1,14 +1,11 @@
 -- A word of the location list or of the directory is listed only if that lies in the file, and a stream's bytes only if
 -- they do; the location entries are in the header block, which a file that passes step 1 has.
-use mathlib.Core.Path.{_≡_}
 use mathlib.Core.Logic.{_⊎_, inl, inr}
-use Prim.Native.Nat.{ℕ, _+_, _*_, _≤_, _<_}
+use Prim.Native.Nat.{ℕ, _*_, _<_}
 use native.Mathlib.Omega.{arith}
-use Rattle.outcome.specs.Outcome.{ok}
 use Rattle.parse_buffer.specs.Bytes.{File}
 use Rattle.paged.specs.Pages.{location, directoryPage}
-use Rattle.header.specs.Header.{directoryPages, headed}
-use Rattle.header.specs.declared.Header.{Header}
+use Rattle.header.specs.Header.{directoryPages}
 use Rattle.header.proofs.HeaderLaws.{headed-long}
 use Rattle.header.proofs.OpenLaws.{is-located}
 use Rattle.stream.specs.Stream.{ownPage}

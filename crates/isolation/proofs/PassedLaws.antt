@@ -4,7 +4,7 @@ use mathlib.Core.Path.{_≡_, sym, _∙_}
 use Prim.Native.Nat.{ℕ, min}
 use native.Mathlib.Omega.{arith}
 use borrow.Author.Tests.{leb-true}
-use Rattle.outcome.specs.Outcome.{ok, _>>=_, _>>_}
+use Rattle.outcome.specs.Outcome.{ok}
 use Rattle.outcome.proofs.OutcomeLaws.{came, came-by, ok-is, passed}
 use Rattle.parse_buffer.specs.Bytes.{File}
 use Rattle.paged.specs.PageSize.{PageSize}

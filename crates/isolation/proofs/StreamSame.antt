@@ -4,7 +4,7 @@ use Prim.Native.Nat.{ℕ, zero, suc, _+_, _/_, _≤_, _<_}
 use native.Mathlib.Omega.{arith}
 use native.Mathlib.Nat.{le-refl}
 use borrow.Author.Tests.{leb-true, ltb-true, le-leb}
-use Rattle.outcome.specs.Outcome.{ok, _>>=_, _>>_}
+use Rattle.outcome.specs.Outcome.{ok}
 use Rattle.outcome.proofs.OutcomeLaws.{passed, came, came-by, ok-is}
 use Rattle.parse_buffer.specs.Bytes.{File}
 use Rattle.paged.specs.Pages.{through, directoryWord}

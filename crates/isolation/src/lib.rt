@@ -1,8 +1,8 @@
 // Demand 3, streams do not leak into each other, as statements with their proofs. The one function does nothing.
 //
 // specs/Listed.antt: the bytes that stream k depends on. specs/Isolation.antt: two files of equal length that agree on
-// them give the same answers and stores. NamedExactly.antt, Stages.antt, InFile.antt and Tight.antt there: what is not on
-// the list. Corollaries.antt: what a reader wants of it.
+// them give the same answers and stores. NamedExactly.antt, Stages.antt, InFile.antt and Tight.antt there: what is not
+// on the list. Corollaries.antt: what a reader wants of it.
 
 ghost use Prim.Native.Nat.{ℕ};
 ghost use Rattle.parse_buffer.specs.Bytes.{File};

@@ -1,4 +1,5 @@
 pub mod Decimal
+pub mod LongestLine
 pub mod InParts
 pub mod Statements
 pub mod Cases

@@ -1,20 +1,23 @@
 -- What holds of the listing beyond its promises. proofs/ has a proof of each record.
 use mathlib.Core.Path.{_≡_}
-use mathlib.Core.List.{List, [], _∷_, _++_}
+use mathlib.Core.List.{List, [], _∷_, _++_, flatten}
 use Prim.Native.Nat.{ℕ, _+_, _-_, _*_, _≤_, _<_}
-use lib.ListN.{length, getD}
+use lib.ListN.{length, take, getD}
 use Rattle.outcome.specs.Outcome.{ok, refused}
 use Rattle.outcome.specs.Refusal as paper
 use Rattle.outcome.specs.Only.{Only₂, Injective}
 use Rattle.parse_buffer.specs.Bytes.{File}
-use Rattle.listing_text.specs.Text.{decimal, refusalText}
+use Rattle.listing_text.specs.Text.{decimal}
 use Rattle.listing_whole.specs.Whole.{listable}
 use Rattle.listing_whole.specs.Promises.{listRefusalIn}
 use Rattle.listing_line.specs.Line.{lineAt}
 use Rattle.listing.specs.Listing.{linesFrom, listing, lineOf}
-use Rattle.listing.specs.Promises.{listedIn, linesIn, textOf, partIn, Lists, Refuses}
+use Rattle.listing.specs.Promises.{listedIn, Lists, Refuses}
 use Rattle.listing.specs.declared.place.Place.{Place}
 use Rattle.listing.specs.declared.place.Place.the-variants.{Head, End}
+use Rattle.listing.specs.declared.Part.{Part}
+use Rattle.listing.specs.declared.Listed.{Listed}
+use Rattle.listing.specs.declared.Listed.the-variants as listed
 
 -- what an answer says on paper tells it from every other answer
 pub record Told : Type 0 where
@@ -36,15 +39,41 @@ pub record Decimal : Type 0 where
   pub digits : (n i : ℕ) → i < length (decimal n) → (48 ≤ getD (decimal n) i 0) × (getD (decimal n) i 0 ≤ 57)
   pub front : (n : ℕ) → 0 < n → 48 < getD (decimal n) 0 0
 
+-- ---- the parts
+-- `list` called again and again, each time from where the call before ended and into a buffer of at least `room` bytes:
+-- the part that each call put into its buffer, and where the listing goes on after the last
+pub data Called (f : File) (len room : ℕ) : Place → List (List ℕ) → Place → Type 0 where
+  none : {place : Place} → Called f len room place [] place
+  more : {place last : Place} {out out′ : List ℕ} {p : Part} {rest : List (List ℕ)} → room ≤ length out →
+      Lists f len place out (listed.Part p) out′ → Called f len room (p .next) rest last →
+      Called f len room place (take (p .bytes) out′ ∷ rest) last
+
 -- the lines from a place to the end
 abbrev pub restFrom : File → ℕ → ℕ → Place → List ℕ
 restFrom f len n place = linesFrom (lineAt f len n) (lineOf n place) (1 + n - lineOf n place)
 
--- part after part, each from where the one before ended and into a buffer of any length, is the listing; a line that fits
--- is in its part, so that a buffer that holds every line brings it to an end. A whole refusal is its one line
+-- of a file of n streams
+pub record Parts (f : File) (len n : ℕ) : Type 0 where
+  -- after any calls, the parts so far joined with the lines that are left are the listing; at the end none is left
+  pub joins : (room : ℕ) {parts : List (List ℕ)} {last : Place} → Called f len room Head parts last →
+      listing f len ≡ flatten parts ++ restFrom f len n last
+  pub none : restFrom f len n End ≡ []
+  -- a line that fits is in its part
+  pub onward : (place : Place) (out : List ℕ) (p : Part) (out′ : List ℕ) → Lists f len place out (listed.Part p) out′ →
+      lineOf n place ≤ n → length (lineAt f len n (lineOf n place)) ≤ length out → lineOf n place < lineOf n (p .next)
+  -- so with room for every line the listing ends after at most 1 + n calls
+  pub ends : (room : ℕ) → ((i : ℕ) → i ≤ n → length (lineAt f len n i) ≤ room) →
+      {parts : List (List ℕ)} {last : Place} → Called f len room Head parts last → 1 + n ≤ length parts → last ≡ End
+  -- and 80 bytes are room for every line; a byte of the file is below 256
+  pub eighty : ((i : ℕ) → f i < 256) → (i : ℕ) → i ≤ n → length (lineAt f len n i) ≤ 80
+
+-- of a file that is refused whole: every call answers that, and the listing is the line that `list_refusal` puts
+pub record NoParts (f : File) (len : ℕ) (why : paper.Refusal) : Type 0 where
+  pub answer : (place : Place) (out : List ℕ) (r : Listed) (out′ : List ℕ) → Lists f len place out r out′ →
+      listedIn r ≡ refused why
+  pub line : (out : List ℕ) (r : ℕ) (out′ : List ℕ) → length (listing f len) ≤ length out → Refuses why out r out′ →
+      take r out′ ≡ listing f len
+
 pub record InParts (f : File) (len : ℕ) : Type 0 where
-  pub refusal : (why : paper.Refusal) → listable f len ≡ refused why → listing f len ≡ refusalText why
-  pub whole : (n : ℕ) → listable f len ≡ ok n → listing f len ≡ restFrom f len n Head
-  pub joins : (n room : ℕ) (place : Place) → restFrom f len n place ≡ textOf f len (linesIn f len n (lineOf n place) room) ++ restFrom f len n (partIn f len (linesIn f len n (lineOf n place) room) .next)
-  pub none : (n : ℕ) → restFrom f len n End ≡ []
-  pub onward : (n room : ℕ) (place : Place) → lineOf n place ≤ n → length (lineAt f len n (lineOf n place)) ≤ room → 0 < linesIn f len n (lineOf n place) room .many
+  pub parts : (n : ℕ) → listable f len ≡ ok n → Parts f len n
+  pub refusal : (why : paper.Refusal) → listable f len ≡ refused why → NoParts f len why

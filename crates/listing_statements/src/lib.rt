@@ -1,6 +1,6 @@
 // What holds of the listing beyond its promises, as statements with their proofs.
 //
-// specs/Statements.antt: no second answer, numbers in decimal, the parts that make the whole. specs/Cases.antt:
+// specs/Statements.antt: no second answer, numbers in decimal, calls of `list` that make the whole. specs/Cases.antt:
 // document 01's listing of file F. The one function does nothing: with it the check fails if a proof goes missing.
 ghost use Prim.Native.Nat.{ℕ};
 ghost use Rattle.parse_buffer.specs.Bytes.{File};
