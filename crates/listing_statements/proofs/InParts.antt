@@ -181,5 +181,5 @@ in-parts f len =
             ends = λ room fits calls l. ended f len n e calls (omega arith) (omega (arith, moves f len n e room fits calls));
             eighty = λ bytes. line-short f bytes len n e;
           };
-      refusal = λ why e. record { answer = refused-whole f len e; line = line-put f len e };
+      refusal = λ why e. record { one-line = one-line f len e; answer = refused-whole f len e; line = line-put f len e };
     }

@@ -7,7 +7,7 @@ use Rattle.outcome.specs.Outcome.{ok, refused}
 use Rattle.outcome.specs.Refusal as paper
 use Rattle.outcome.specs.Only.{Only₂, Injective}
 use Rattle.parse_buffer.specs.Bytes.{File}
-use Rattle.listing_text.specs.Text.{decimal}
+use Rattle.listing_text.specs.Text.{decimal, refusalText}
 use Rattle.listing_whole.specs.Whole.{listable}
 use Rattle.listing_whole.specs.Promises.{listRefusalIn}
 use Rattle.listing_line.specs.Line.{lineAt}
@@ -67,8 +67,10 @@ pub record Parts (f : File) (len n : ℕ) : Type 0 where
   -- and 80 bytes are room for every line; a byte of the file is below 256
   pub eighty : ((i : ℕ) → f i < 256) → (i : ℕ) → i ≤ n → length (lineAt f len n i) ≤ 80
 
--- of a file that is refused whole: every call answers that, and the listing is the line that `list_refusal` puts
+-- of a file that is refused whole: the listing is that one line. Every call of `list` answers the refusal, and
+-- `list_refusal` puts the line
 pub record NoParts (f : File) (len : ℕ) (why : paper.Refusal) : Type 0 where
+  pub one-line : listing f len ≡ refusalText why
   pub answer : (place : Place) (out : List ℕ) (r : Listed) (out′ : List ℕ) → Lists f len place out r out′ →
       listedIn r ≡ refused why
   pub line : (out : List ℕ) (r : ℕ) (out′ : List ℕ) → length (listing f len) ≤ length out → Refuses why out r out′ →
