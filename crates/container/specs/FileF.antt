@@ -1,6 +1,6 @@
 -- Document 01's file F: P 256, pages_used 24, 6,144 bytes, location entry 3; page 3 begins with 4; directory_size 36 at
--- page 4: count 3; sizes 300, 0xffffffff, 600; pages 20, 21, 10, 11, 5. free_page_map is 1; any other byte that document
--- 01 leaves open is 0.
+-- page 4: count 3; sizes 300, 0xffffffff, 600; pages 20, 21, 10, 11, 5. free_page_map is 1; any other byte that
+-- document 01 leaves open is 0.
 use mathlib.Core.List.{List, [], _∷_, _++_}
 use Prim.Native.Nat.{ℕ, _-_, _*_}
 use lib.ListN.{length, replicate}
