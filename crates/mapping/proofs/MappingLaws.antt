@@ -116,12 +116,16 @@ unfoldable pub slicesFor : File → Outcome paper.Refusal Asked → List SourceS
 slicesFor f (ok x) = slicesIn f x
 slicesFor f (refused why) = []
 
-mapping-asked : (f : File) (len k : ℕ) (limit : Limit) (room : ℕ) {x : Asked} → mapping f len k limit room ≡ ok x → (asked f len k limit ≡ ok x) × (length (slicesIn f x) ≤ room)
+pub record Mapping-at (f : File) (len k : ℕ) (limit : Limit) (room : ℕ) (x : Asked) : Type 0 where
+  pub asked : asked f len k limit ≡ ok x
+  pub fits : length (slicesIn f x) ≤ room
+
+pub mapping-at : (f : File) (len k : ℕ) (limit : Limit) (room : ℕ) {x : Asked} → mapping f len k limit room ≡ ok x → Mapping-at f len k limit room x
 unfolding mapping
-mapping-asked f len k limit room e =
+mapping-at f len k limit room e =
     came-by _ _ e λ y a e₁.
     came _ _ e₁ λ _ fits e₂.
-    (a ∙ e₂, rw (← ok-is e₂) (leb-true _ _ (passed _ _ fits)))
+    record { asked = a ∙ e₂; fits = rw (← ok-is e₂) (leb-true _ _ (passed _ _ fits)) }
 
 module _ (f : File) where
   pub written-is : {B : Type 0} (g : SourceSlice → B) (o : Outcome paper.Refusal Asked) (store : List B) → sets store 0 (map g (slicesFor f o)) ≡ written o (λ x. map g (slicesIn f x)) store
@@ -147,9 +151,9 @@ module _ {f : File} {len k room : ℕ} {limit : Limit} {r : Plan} (p : Plans f l
       go : (o : Outcome paper.Refusal Asked) → mapping f len k limit room ≡ o → Fits-as
       go (ok x) g =
           let extent : r .extent ≡ extentOf x = p .extent ∙ rw g in
-          let m = mapping-asked f len k limit room g in
-          let same : slicesIn f x ≡ slicesThrough f (r .extent) = slices-asked f len k limit (m .0) ∙ ap (slicesThrough f) (sym extent) in
-          record { is = rw g (sym same); fit = rw (← same) (m .1) }
+          let m = mapping-at f len k limit room g in
+          let same : slicesIn f x ≡ slicesThrough f (r .extent) = slices-asked f len k limit (m .asked) ∙ ap (slicesThrough f) (sym extent) in
+          record { is = rw g (sym same); fit = rw (← same) (m .fits) }
       go (refused w) g =
           let extent : r .extent ≡ noBytes = p .extent ∙ rw g in
           record { is = rw (g, extent); fit = rw extent (omega arith) }

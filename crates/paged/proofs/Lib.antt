@@ -1,3 +1,4 @@
 pub mod SizeLaws
 pub mod PagesLaws
 pub mod CheckLaws
+pub mod LiesLaws

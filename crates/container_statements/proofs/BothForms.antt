@@ -13,29 +13,30 @@ use Rattle.outcome.proofs.OutcomeLaws.{came, came-by, ok-is, passed}
 use Rattle.outcome.proofs.OnlyLaws.{only}
 use Rattle.parse_buffer.specs.Bytes.{File}
 use Rattle.slices.specs.declared.SourceSlice.{SourceSlice}
-use Rattle.msf.specs.Msf.{Placed, slicesIn, mapping}
-use Rattle.msf.specs.Promises.{mappedIn, mapped, Maps}
+use Rattle.extent.specs.Extent.{Asked}
+use Rattle.mapping.specs.Mapping.{slicesIn, mapping, mappedIn, mapped}
+use Rattle.msf.specs.Promises.{Maps}
 use Rattle.msf.proofs.CopyLaws.{sets-first}
-use Rattle.msf.specs.declared.limit.Limit.{Limit}
-use Rattle.msf.specs.declared.to_slices.Mapped.{Mapped}
-use Rattle.msf.specs.declared.to_slices.Mapping.{Mapping}
+use Rattle.extent.specs.declared.limit.Limit.{Limit}
+use Rattle.mapping.specs.declared.Mapped.{Mapped}
+use Rattle.mapping.specs.declared.Mapping.{Mapping}
 use Rattle.slice_store.specs.Promises.{MapsInto}
-use Rattle.container.specs.Statements.{none, Answered-alike, BothForms}
-use Rattle.container.proofs.Told.{told}
+use Rattle.container_statements.specs.Statements.{none, Answered-alike, BothForms}
+use Rattle.container_statements.proofs.Told.{told}
 
 -- ---- an answer that is a mapping came of one that was accepted
 record Mapping-at (f : File) (len k : ℕ) (limit : Limit) (room : ℕ) (m : Mapped) : Type 0 where
-  placed : Placed
+  placed : Asked
   is : mapping f len k limit room ≡ ok placed
   count : m .slices ≡ length (slicesIn f placed)
   fits : length (slicesIn f placed) ≤ room
 
-accepted : (f : File) (o : Outcome paper.Refusal Placed) {m : Mapped} → mapped f o ≡ ok m → (x : Placed) × ((o ≡ ok x) × (m .slices ≡ length (slicesIn f x)))
+accepted : (f : File) (o : Outcome paper.Refusal Asked) {m : Mapped} → mapped f o ≡ ok m → (x : Asked) × ((o ≡ ok x) × (m .slices ≡ length (slicesIn f x)))
 unfolding mapped _>>=_
 accepted f (ok x) e = (x, (refl, ap (λ (m : Mapped). m .slices) (sym (ok-is e))))
 accepted f (refused why) e = absurd (let z : _≡_ {A = ℕ} 0 1 = cc in omega arith)
 
-mapping-fits : (f : File) (len k : ℕ) (limit : Limit) (room : ℕ) {x : Placed} → mapping f len k limit room ≡ ok x → length (slicesIn f x) ≤ room
+mapping-fits : (f : File) (len k : ℕ) (limit : Limit) (room : ℕ) {x : Asked} → mapping f len k limit room ≡ ok x → length (slicesIn f x) ≤ room
 unfolding mapping
 mapping-fits f len k limit room {x} e =
     came-by _ _ e λ y p e₁.
@@ -49,9 +50,9 @@ mapping-at f len k limit room e =
     record { placed = a .0; is = a .1 .0; count = a .1 .1; fits = mapping-fits f len k limit room (a .1 .0) }
 
 -- what an accepted mapping writes, in a store of any kind
-entries-after : {B : Type 0} {o : Outcome paper.Refusal Placed} {x : Placed} (entries : Placed → List B) (store : List B) → o ≡ ok x → written o entries store ≡ sets store 0 (entries x)
+entries-after : {B : Type 0} {o : Outcome paper.Refusal Asked} {x : Asked} (entries : Asked → List B) (store : List B) → o ≡ ok x → written o entries store ≡ sets store 0 (entries x)
 unfolding written
-entries-after {B} entries store e = ap (λ (z : Outcome paper.Refusal Placed). written {B = B} z entries store) e
+entries-after {B} entries store e = ap (λ (z : Outcome paper.Refusal Asked). written {B = B} z entries store) e
 
 -- ---- a store of slices, and one that holds one number of each
 same-entry : (xs : List SourceSlice) (store : List SourceSlice) (g : SourceSlice → ℕ) (n : List ℕ) → length xs ≤ length store → length xs ≤ length n → (i : ℕ) → i < length xs → g (getD (sets store 0 xs) i none) ≡ getD (sets n 0 (map g xs)) i (g none)

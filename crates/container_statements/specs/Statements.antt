@@ -17,11 +17,12 @@ use Rattle.stream.specs.Stream.{absent, sizeAt, pagesOf, firstOf, ownPage, ownP
 use Rattle.stream.specs.declared.Found.{Found}
 use Rattle.slices.specs.Slices.{Full, total, placeOf}
 use Rattle.slices.specs.declared.SourceSlice.{SourceSlice}
-use Rattle.msf.specs.Msf.{lengthOf, Placed, slicesIn, mapping}
-use Rattle.msf.specs.Promises.{mappedIn, extractedIn, Maps, Extracts}
-use Rattle.msf.specs.declared.limit.Limit.{Limit}
-use Rattle.msf.specs.declared.to_slices.Mapped.{Mapped}
-use Rattle.msf.specs.declared.to_slices.Mapping.{Mapping}
+use Rattle.extent.specs.Extent.{lengthOf, Asked}
+use Rattle.mapping.specs.Mapping.{slicesIn, mapping, mappedIn}
+use Rattle.msf.specs.Promises.{extractedIn, Maps, Extracts}
+use Rattle.extent.specs.declared.limit.Limit.{Limit}
+use Rattle.mapping.specs.declared.Mapped.{Mapped}
+use Rattle.mapping.specs.declared.Mapping.{Mapping}
 use Rattle.msf.specs.declared.to_bytes.Extracted.{Extracted}
 use Rattle.slice_store.specs.Promises.{MapsInto}
 
@@ -51,7 +52,7 @@ pub record SingleValued : Type 0 where
 -- where byte i of a stream stands in the file: page (i / P) * P + i mod P, where `page` is the stream's own entries in
 -- the directory
 abbrev pub bytePlace : File → Found → ℕ → ℕ
-bytePlace f x i = ownPage f x (i / x .header .size) * x .header .size + i % x .header .size
+bytePlace f x i = ownPage f x (i / x .header .pagesize) * x .header .pagesize + i % x .header .pagesize
 
 -- demand 2: an accepted extraction of length n is of a stream found as stream k. Byte i of the store is the stream's
 -- byte i, which is in the file, and past n nothing changed
@@ -69,13 +70,13 @@ pub record TheByte : Type 0 where
 
 -- the slices of an accepted mapping: none is empty, they have the answered length, and laid end to end they name the
 -- stream's bytes in their order
-pub record Slices-of (f : File) (x : Placed) : Type 0 where
+pub record Slices-of (f : File) (x : Asked) : Type 0 where
   pub full : Full (slicesIn f x)
-  pub size : total (slicesIn f x) ≡ x .size
-  pub place : (i : ℕ) → i < x .size → placeOf (slicesIn f x) i ≡ bytePlace f (x .found) i
+  pub size : total (slicesIn f x) ≡ x .length
+  pub place : (i : ℕ) → i < x .length → placeOf (slicesIn f x) i ≡ bytePlace f (x .found) i
 
 pub record TheSlices : Type 0 where
-  pub is : (f : File) (len k : ℕ) (limit : Limit) (room : ℕ) {x : Placed} → mapping f len k limit room ≡ ok x →
+  pub is : (f : File) (len k : ℕ) (limit : Limit) (room : ℕ) {x : Asked} → mapping f len k limit room ≡ ok x →
       Slices-of f x
 
 -- the two forms of a mapping, two number stores and one slice store: with room for as many slices there is one answer,
@@ -104,8 +105,8 @@ pub record Pages-needed : Type 0 where
 
 -- a stream that is found as stream k has the entries of its number
 pub record Entries-of (f : File) (k : ℕ) (x : Found) : Type 0 where
-  pub first : x .first ≡ firstOf f (x .header .size) (directoryWord f (x .header .size) 0) k
-  pub pages : ownPages x ≡ pagesOf (x .header .size) (sizeAt f (x .header .size) k)
+  pub first : x .first ≡ firstOf f (x .header .pagesize) (directoryWord f (x .header .pagesize) 0) k
+  pub pages : ownPages x ≡ pagesOf (x .header .pagesize) (sizeAt f (x .header .pagesize) k)
 
 -- each stream's own: the entry ranges follow the sizes in stream order, and those of two streams are disjoint. Absent
 -- sizes take no pages; a size of 0 is present and empty

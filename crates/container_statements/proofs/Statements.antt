@@ -12,7 +12,7 @@ use lib.Seq.{sets}
 use Rattle.outcome.specs.Outcome.{Outcome, ok, refused, _>>=_, _>>_}
 use Rattle.outcome.specs.Refusal as paper
 use Rattle.outcome.specs.Store.{written}
-use Rattle.outcome.proofs.OutcomeLaws.{came, came-by, ok-is, passed}
+use Rattle.outcome.proofs.OutcomeLaws.{came, came-by, ok-is, ok-refused, passed}
 use Rattle.outcome.proofs.OnlyLaws.{only, only₂, only₃}
 use Rattle.parse_buffer.specs.Bytes.{File}
 use Rattle.parse_buffer.specs.Parse.{parseU32, parsedIn}
@@ -20,24 +20,28 @@ use Rattle.paged.specs.PageSize.{need}
 use Rattle.paged.specs.Pages.{through}
 use Rattle.paged.specs.Checks.{liesInFile}
 use Rattle.paged.proofs.SizeLaws.{need-covers, need-least, word-in-page}
-use Rattle.header.specs.Promises.{openedIn, opening}
+use Rattle.header.specs.Promises.{openedIn}
+use Rattle.header.specs.Header.{opening}
 use Rattle.directory.specs.Directory.{streamCount}
 use Rattle.directory.specs.Promises.{countedIn}
-use Rattle.directory.proofs.DirectoryLaws.{reached-size}
+use Rattle.directory.proofs.DirectoryLaws.{reached-at}
 use Rattle.stream.specs.Stream.{sizeAt, pagesOf, pagesBefore, firstOf, ownPage, ownPages, found}
 use Rattle.stream.specs.declared.Found.{Found}
 use Rattle.stream.proofs.FindLaws.{found-at, first-at}
 use Rattle.slices.specs.Slices.{Full, total, placeOf}
 use Rattle.slices.proofs.EndToEndLaws.{slices-full, slices-total, slices-place}
-use Rattle.msf.specs.Msf.{lengthOf, Placed, placed, slicesIn, mapping, bytesIn, readable, extraction}
-use Rattle.msf.specs.Promises.{mappedIn, extractedIn, lengthIn, Extracts}
+use Rattle.extent.specs.Extent.{lengthOf, Asked, asked, readable}
+use Rattle.mapping.specs.Mapping.{slicesIn, mapping, mappedIn}
+use Rattle.msf.specs.Extraction.{bytesIn, extraction, lengthIn}
+use Rattle.msf.specs.Promises.{extractedIn, Extracts}
 use Rattle.msf.proofs.CopyLaws.{through-length, through-at, sets-first, sets-beyond}
-use Rattle.msf.proofs.PlaceLaws.{length-most}
-use Rattle.msf.specs.declared.limit.Limit.{Limit}
+use Rattle.extent.proofs.ExtentLaws.{length-most, Asked-at, asked-at, readable-at}
+use Rattle.mapping.proofs.MappingLaws.{mapping-at}
+use Rattle.extent.specs.declared.limit.Limit.{Limit}
 use Rattle.msf.specs.declared.to_bytes.Extracted.{Extracted}
-use Rattle.container.specs.Statements.{SingleValued, Extracted-from, TheByte, TheSlices, Pages-needed, Entries-of, Own}
-use Rattle.container.proofs.FileLaws.{lies-byte}
-use Rattle.container.proofs.Told.{told}
+use Rattle.container_statements.specs.Statements.{SingleValued, Extracted-from, TheByte, TheSlices, Pages-needed, Entries-of, Own}
+use Rattle.paged.proofs.LiesLaws.{lies-byte}
+use Rattle.container_statements.proofs.Told.{told}
 
 pub single-valued : SingleValued
 single-valued =
@@ -54,52 +58,26 @@ single-valued =
           only₂ mappedIn (told .mapped) _ _ a b x y (p .answer, p .after) (q .answer, q .after);
     }
 
--- ---- what is placed is of a stream that was found
-record Placed-at (f : File) (len k : ℕ) (limit : Limit) (x : Placed) : Type 0 where
-  found : found f len k ≡ ok (x .found)
-  size : x .size ≡ lengthOf limit (x .found .size)
+-- ---- what is asked for is held by the pages of the stream
+module _ (f : File) (len k : ℕ) (limit : Limit) {x : Asked} (e : asked f len k limit ≡ ok x) where
+  at : Asked-at f len k limit x
+  at = asked-at f len k limit e
 
-placed-at : (f : File) (len k : ℕ) (limit : Limit) {x : Placed} → placed f len k limit ≡ ok x → Placed-at f len k limit x
-unfolding placed
-placed-at f len k limit {x} e =
-    came-by _ _ e λ y g e₁.
-    let same = ok-is e₁ in
-    record {
-      found = g ∙ ap (λ (z : Placed). ok (z .found)) same;
-      size = rw (← same) refl;
-    }
+  pub large : 0 < x .found .header .pagesize
+  large = let s = reached-at f len (found-at f len k (at .found) .reached) .size .least in omega arith
 
-module _ (f : File) (len k : ℕ) (limit : Limit) {x : Placed} (e : placed f len k limit ≡ ok x) where
-  at : Placed-at f len k limit x
-  at = placed-at f len k limit e
-
-  pub large : 0 < x .found .header .size
-  large = let s = reached-size f len (found-at f len k (at .found) .reached) .least in omega arith
-
-  pub held : x .size ≤ ownPages (x .found) * x .found .header .size
+  pub held : x .length ≤ ownPages (x .found) * x .found .header .pagesize
   held =
-      let c = need-covers (x .found .header .size) (x .found .size) large in
-      let m : x .size ≤ x .found .size = rw (at .size) (length-most limit (x .found .size)) in
+      let c = need-covers (x .found .header .pagesize) (x .found .size) large in
+      let m : x .length ≤ x .found .size = rw (at .length) (length-most limit (x .found .size)) in
       omega arith
 
 -- ---- the byte
--- what is read lies in the file
-pub record Readable-at (f : File) (len k : ℕ) (limit : Limit) (x : Placed) : Type 0 where
-  pub placed : placed f len k limit ≡ ok x
-  pub lies : liesInFile len (x .found .header .size) (ownPage f (x .found)) (x .size) (need (x .found .header .size) (x .size)) ≡ ok tt
-
-pub readable-at : (f : File) (len k : ℕ) (limit : Limit) {x : Placed} → readable f len k limit ≡ ok x → Readable-at f len k limit x
-unfolding readable
-readable-at f len k limit {x} e =
-    came-by _ _ e λ y p e₁.
-    came _ _ e₁ λ _ l e₂.
-    record { placed = p ∙ e₂; lies = rw (← ok-is e₂) l }
-
-record Extraction-at (f : File) (len k : ℕ) (limit : Limit) (room : ℕ) (x : Placed) : Type 0 where
+record Extraction-at (f : File) (len k : ℕ) (limit : Limit) (room : ℕ) (x : Asked) : Type 0 where
   readable : readable f len k limit ≡ ok x
-  fits : x .size ≤ room
+  fits : x .length ≤ room
 
-extraction-at : (f : File) (len k : ℕ) (limit : Limit) (room : ℕ) {x : Placed} → extraction f len k limit room ≡ ok x → Extraction-at f len k limit room x
+extraction-at : (f : File) (len k : ℕ) (limit : Limit) (room : ℕ) {x : Asked} → extraction f len k limit room ≡ ok x → Extraction-at f len k limit room x
 unfolding extraction
 extraction-at f len k limit room {x} e =
     came-by _ _ e λ y r e₁.
@@ -107,33 +85,33 @@ extraction-at f len k limit room {x} e =
     record { readable = r ∙ e₂; fits = rw (← ok-is e₂) (leb-true _ _ (passed _ _ l)) }
 
 -- an answer that is a length came of an extraction that was accepted
-accepted : (o : Outcome paper.Refusal Placed) {n : ℕ} → lengthIn o ≡ ok n → (x : Placed) × ((o ≡ ok x) × (x .size ≡ n))
+accepted : (o : Outcome paper.Refusal Asked) {n : ℕ} → lengthIn o ≡ ok n → (x : Asked) × ((o ≡ ok x) × (x .length ≡ n))
 unfolding lengthIn _>>=_
 accepted (ok x) e = (x, (refl, ok-is e))
-accepted (refused why) e = absurd (let z : _≡_ {A = ℕ} 0 1 = cc in omega arith)
+accepted (refused why) e = absurd (ok-refused (sym e))
 
 extracted-from : (f : File) (len k : ℕ) (limit : Limit) (out : List ℕ) (r : Extracted) (out′ : List ℕ) → Extracts f len k limit out r out′ → (n : ℕ) → extractedIn r ≡ ok n → Extracted-from f len k limit out out′ n
 unfolding written
 extracted-from f len k limit out r out′ p n e =
     let a = accepted (extraction f len k limit (length out)) (sym (p .answer) ∙ e) in
-    let x : Placed = a .0 in
+    let x : Asked = a .0 in
     let is : extraction f len k limit (length out) ≡ ok x = a .1 .0 in
-    let size : x .size ≡ n = a .1 .1 in
+    let size : x .length ≡ n = a .1 .1 in
     let at = extraction-at f len k limit (length out) is in
     let read = readable-at f len k limit (at .readable) in
-    let pl = placed-at f len k limit (read .placed) in
+    let of = asked-at f len k limit (read .asked) in
     let fits = at .fits in
-    let P : ℕ = x .found .header .size in
-    let long : length (bytesIn f x) ≡ x .size = through-length f P (ownPage f (x .found)) (x .size) in
-    let after : out′ ≡ sets out 0 (bytesIn f x) = p .after ∙ ap (λ (o : Outcome paper.Refusal Placed). written o (bytesIn f) out) is in
+    let P : ℕ = x .found .header .pagesize in
+    let long : length (bytesIn f x) ≡ x .length = through-length f P (ownPage f (x .found)) (x .length) in
+    let after : out′ ≡ sets out 0 (bytesIn f x) = p .after ∙ ap (λ (o : Outcome paper.Refusal Asked). written o (bytesIn f) out) is in
     record {
       stream = x .found;
-      is = pl .found;
-      size = sym size ∙ pl .size;
+      is = of .found;
+      size = sym size ∙ of .length;
       byte = λ i h.
-          ap (λ (l : List ℕ). getD l i 0) after ∙ sets-first 0 out (bytesIn f x) (omega arith) i (omega arith) ∙ through-at f P (ownPage f (x .found)) (x .size) i (omega arith);
+          ap (λ (l : List ℕ). getD l i 0) after ∙ sets-first 0 out (bytesIn f x) (omega arith) i (omega arith) ∙ through-at f P (ownPage f (x .found)) (x .length) i (omega arith);
       inside = λ i h.
-          lies-byte len P (ownPage f (x .found)) (x .size) (large f len k limit (read .placed)) (read .lies) i (omega arith);
+          lies-byte len P (ownPage f (x .found)) (x .length) (large f len k limit (read .asked)) (read .lies) i (omega arith);
       beyond = λ i h. ap (λ (l : List ℕ). getD l i 0) after ∙ sets-beyond 0 out (bytesIn f x) (omega arith) i (omega arith);
     }
 
@@ -141,30 +119,23 @@ pub the-byte : TheByte
 the-byte = record { is = extracted-from }
 
 -- ---- the slices
-pub mapping-placed : (f : File) (len k : ℕ) (limit : Limit) (room : ℕ) {x : Placed} → mapping f len k limit room ≡ ok x → placed f len k limit ≡ ok x
-unfolding mapping
-mapping-placed f len k limit room e =
-    came-by _ _ e λ y p e₁.
-    came _ _ e₁ λ _ _ e₂.
-    p ∙ e₂
-
-module _ (f : File) (len k : ℕ) (limit : Limit) {x : Placed} (e : placed f len k limit ≡ ok x) where
+module _ (f : File) (len k : ℕ) (limit : Limit) {x : Asked} (e : asked f len k limit ≡ ok x) where
   is-full : Full (slicesIn f x)
-  is-full = slices-full (x .found .header .size) (ownPage f (x .found)) (large f len k limit e) (ownPages (x .found)) (x .size) (held f len k limit e)
+  is-full = slices-full (x .found .header .pagesize) (ownPage f (x .found)) (large f len k limit e) (ownPages (x .found)) (x .length) (held f len k limit e)
 
-  pub is-total : total (slicesIn f x) ≡ x .size
+  pub is-total : total (slicesIn f x) ≡ x .length
   is-total =
-      slices-total (x .found .header .size) (ownPage f (x .found)) (large f len k limit e) (ownPages (x .found)) (x .size) (held f len k limit e)
+      slices-total (x .found .header .pagesize) (ownPage f (x .found)) (large f len k limit e) (ownPages (x .found)) (x .length) (held f len k limit e)
 
-  pub is-place : (i : ℕ) → i < x .size → placeOf (slicesIn f x) i ≡ through (x .found .header .size) (ownPage f (x .found)) i
+  pub is-place : (i : ℕ) → i < x .length → placeOf (slicesIn f x) i ≡ through (x .found .header .pagesize) (ownPage f (x .found)) i
   is-place =
-      slices-place (x .found .header .size) (ownPage f (x .found)) (large f len k limit e) (ownPages (x .found)) (x .size) (held f len k limit e)
+      slices-place (x .found .header .pagesize) (ownPage f (x .found)) (large f len k limit e) (ownPages (x .found)) (x .length) (held f len k limit e)
 
 pub the-slices : TheSlices
 the-slices =
     record {
       is = λ f len k limit room e.
-          let p = mapping-placed f len k limit room e in
+          let p = mapping-at f len k limit room e .asked in
           record { full = is-full f len k limit p; size = is-total f len k limit p; place = is-place f len k limit p };
     }
 
@@ -188,7 +159,7 @@ first-rises f p count j k h =
 
 entries-of : (f : File) (len k : ℕ) {x : Found} → found f len k ≡ ok x → Entries-of f k x
 entries-of f len k e =
-    let x = first-at f len k (found-at f len k e .listed) in record { first = x .first; pages = x .pages }
+    let x = first-at f len k (found-at f len k e .skipped) in record { first = x .first; pages = x .pages }
 
 pub own : Own
 unfolding pagesOf

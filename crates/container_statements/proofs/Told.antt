@@ -18,12 +18,13 @@ use Rattle.header.specs.declared.Opened.the-variants as opened
 use Rattle.directory.specs.Promises.{countedIn}
 use Rattle.directory.specs.declared.Counted.{Counted}
 use Rattle.directory.specs.declared.Counted.the-variants as counted
-use Rattle.msf.specs.Promises.{mappedIn, extractedIn}
-use Rattle.msf.specs.declared.to_slices.Mapping.{Mapping}
-use Rattle.msf.specs.declared.to_slices.Mapping.the-variants as mapping
+use Rattle.mapping.specs.Mapping.{mappedIn}
+use Rattle.msf.specs.Promises.{extractedIn}
+use Rattle.mapping.specs.declared.Mapping.{Mapping}
+use Rattle.mapping.specs.declared.Mapping.the-variants as mapping
 use Rattle.msf.specs.declared.to_bytes.Extracted.{Extracted}
 use Rattle.msf.specs.declared.to_bytes.Extracted.the-variants as extracted
-use Rattle.container.specs.Statements.{Told}
+use Rattle.container_statements.specs.Statements.{Told}
 
 -- ---- refusals
 abbrev pub refusal-back : paper.Refusal → Refusal

@@ -9,13 +9,13 @@ use Rattle.paged.specs.Pages.{location, directoryPage, directoryWord}
 use Rattle.paged.specs.Checks.{pageFits}
 use Rattle.header.specs.Header.{standsAt, sized, headed, located}
 use Rattle.directory.specs.Directory.{reached}
-use Rattle.stream.specs.Stream as stream
-use Rattle.stream.specs.Stream.{pagesOf, pagesBefore, listed, found}
+use Rattle.stream.specs.Stream.{pagesOf, pagesBefore, present, skippedTo, found}
 use Rattle.slices.specs.Slices.{lengthen, slicesOf, cut}
-use Rattle.msf.specs.Msf.{placed, mapping}
-use Rattle.container.specs.FileF.{fileF, F}
-use Rattle.container.specs.Cases.{Cases, mappingOf, placeInF}
+use Rattle.extent.specs.Extent.{asked}
+use Rattle.mapping.specs.Mapping.{mapping}
+use Rattle.container_statements.specs.FileF.{fileF, F}
+use Rattle.container_statements.specs.Cases.{Cases, mappingOf, placeInF}
 
 pub cases : Cases
-unfolding mappingOf placeInF F fileF _>>=_ _>>_ require each word sizeFits need location directoryPage directoryWord pageFits standsAt sized headed located reached pagesOf pagesBefore stream.sized listed found lengthen slicesOf cut placed mapping Count.ones Count.onesIn
+unfolding mappingOf placeInF F fileF _>>=_ _>>_ require each word sizeFits need location directoryPage directoryWord pageFits standsAt sized headed located reached pagesOf pagesBefore present skippedTo found lengthen slicesOf cut asked mapping Count.ones Count.onesIn
 cases = record { size = refl; two = refl; byte = refl; zero = refl; one = refl; three = refl }

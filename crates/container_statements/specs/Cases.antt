@@ -8,10 +8,10 @@ use Rattle.outcome.specs.Refusal as paper
 use Rattle.parse_buffer.specs.Bytes.{File}
 use Rattle.stream.specs.Stream.{found}
 use Rattle.slices.specs.declared.SourceSlice.{SourceSlice}
-use Rattle.msf.specs.Msf.{slicesIn, mapping}
-use Rattle.msf.specs.declared.limit.Limit.the-variants.{None}
-use Rattle.container.specs.FileF.{fileF, F}
-use Rattle.container.specs.Statements.{bytePlace}
+use Rattle.mapping.specs.Mapping.{slicesIn, mapping}
+use Rattle.extent.specs.declared.limit.Limit.the-variants.{None}
+use Rattle.container_statements.specs.FileF.{fileF, F}
+use Rattle.container_statements.specs.Statements.{bytePlace}
 
 -- what mapping a stream answers, with room for eight slices and no limit: the slices and the length
 pub record Answer : Type 0 where
@@ -21,7 +21,7 @@ pub record Answer : Type 0 where
 unfoldable pub mappingOf : File → ℕ → Outcome paper.Refusal Answer
 mappingOf f k = do
   x ← mapping f 6144 k None 8
-  ok (record { slices = slicesIn f x; size = x .size })
+  ok (record { slices = slicesIn f x; size = x .length })
 
 abbrev mappingF : ℕ → Outcome paper.Refusal Answer
 mappingF k = mappingOf F k
