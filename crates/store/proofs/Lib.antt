@@ -1,0 +1,2 @@
+pub mod SetsLaws
+pub mod PutLaws
