@@ -1,23 +1,23 @@
 -- Line after line: what stands in the buffer after some of them, and that no more fit when the loop stops.
 use mathlib.Core.Path.{_≡_, refl, sym, _∙_, ap}
-use mathlib.Core.Bool.{cond}
+use mathlib.Core.Bool.{Bool, cond}
 use mathlib.Core.List.{List, _++_}
 use Prim.Native.Nat.{ℕ, zero, suc, _+_, _-_, _≤_, _<_}
 use native.Mathlib.Omega.{arith}
 use native.Mathlib.Decide.{le-ind}
 use borrow.Author.Tests.{le-leb, lt-leb, leb-true}
 use lib.Dec.{leb}
-use lib.ListN.{length, take, drop, length-append, length-take}
-use lib.Seq.{sets, sets-eq, length-sets, take-at}
+use lib.ListN.{length, take, length-append}
+use lib.Seq.{sets, length-sets, length-take-le}
 use Rattle.outcome.specs.Outcome.{Outcome, ok, refused, _>>=_, Unchanged}
 use Rattle.outcome.specs.Refusal as paper
 use Rattle.outcome.proofs.OutcomeLaws.{by-test, came-by, ok-is, unchanged, unreached}
 use Rattle.outcome.specs.Store.{written}
+use Rattle.store.specs.Putting.{Putting}
+use Rattle.store.proofs.SetsLaws.{sets-append}
+use Rattle.store.proofs.PutLaws.{put-first}
 use Rattle.parse_buffer.specs.Bytes.{File}
-use Rattle.io.specs.Counts.{Counts}
 use Rattle.listing_text.specs.Text.{refusalText}
-use Rattle.listing_text.specs.Putting.{Putting}
-use Rattle.listing_text.proofs.TextLaws.{sets-append}
 use Rattle.listing_whole.specs.Whole.{listable}
 use Rattle.listing_whole.specs.Promises.{listRefusalIn, judgedIn, Judges}
 use Rattle.listing_whole.proofs.WholeLaws.{whole-is, whole-at, refused-whole}
@@ -68,15 +68,7 @@ module _ (room : ℕ) (line : ℕ → List ℕ) (from : ℕ) where
       (λ e. leb-true _ _ e)
       (λ _. most-fits m)
 
--- ---- what was written, as the front of a text or a buffer
--- a line at the front of a text that has room for it
-pub line-taken : {xs t t′ : List ℕ} {n : ℕ} → Putting xs t 0 t′ n → n ≤ length t′ → take n t′ ≡ xs
-line-taken {xs} {t} {t′} {n} p l =
-    let q = p .place in
-    let same : length t′ ≡ length t = ap length (p .store) ∙ length-sets t 0 xs in
-    let e : sets t 0 xs ≡ xs ++ drop (0 + length xs) t = sets-eq xs t 0 (omega arith) in
-    ap (take n) (p .store ∙ e) ∙ take-at xs _ n (omega arith)
-
+-- ---- `write_lines`
 -- the lines from one up to another
 pub record So-far (line : ℕ → List ℕ) (from i at : ℕ) (out₀ out : List ℕ) : Type 0 where
   pub begun : from ≤ i
@@ -107,23 +99,22 @@ module _ {line : ℕ → List ℕ} {from i at : ℕ} {out₀ out : List ℕ} (s 
     many =
         ap length is-next ∙ length-append (linesFrom line from (i - from)) (line i) ∙ omega (arith, s .bytes, p .place)
 
-    module _ (short : n ≤ length t′) where
-      pub so-room : n ≤ length out - at → at + length (take n t′) ≤ length out
-      so-room l = rw (line-taken p short) (omega (arith, same-out, s .fits, p .place))
+    pub so-room : n ≤ length out - at → at + length (take n t′) ≤ length out
+    so-room l = rw (put-first p) (omega (arith, same-out, s .fits, p .place))
 
-      pub so-more : {out′ : List ℕ} {at′ : ℕ} → n ≤ length out - at → Putting (take n t′) out at out′ at′ → So-far line from (i + 1) at′ out₀ out′
-      so-more {out′} {at′} l q =
-          let next : i + 1 - from ≡ suc (i - from) = omega (arith, s .begun) in
-          let e : take n t′ ≡ line i = line-taken p short in
-          let place : at′ ≡ at + n = q .place ∙ ap (λ (xs : List ℕ). at + length xs) e ∙ omega (arith, p .place) in
-          let run : out′ ≡ sets out at (line i) = q .store ∙ ap (sets out at) e in
-          let start : at ≡ 0 + length (linesFrom line from (i - from)) = omega (arith, s .bytes) in
-          record {
-            begun = omega (arith, s .begun);
-            bytes = rw (next, many) place;
-            fits = omega (arith, same-out, s .fits);
-            store = rw (next, is-next) (run ∙ rw (s .store, start) (sets-append (linesFrom line from (i - from)) (line i) out₀ 0));
-          }
+    pub so-more : {out′ : List ℕ} {at′ : ℕ} → n ≤ length out - at → Putting (take n t′) out at out′ at′ → So-far line from (i + 1) at′ out₀ out′
+    so-more {out′} {at′} l q =
+        let next : i + 1 - from ≡ suc (i - from) = omega (arith, s .begun) in
+        let e : take n t′ ≡ line i = put-first p in
+        let place : at′ ≡ at + n = q .place ∙ ap (λ (xs : List ℕ). at + length xs) e ∙ omega (arith, p .place) in
+        let run : out′ ≡ sets out at (line i) = q .store ∙ ap (sets out at) e in
+        let start : at ≡ 0 + length (linesFrom line from (i - from)) = omega (arith, s .bytes) in
+        record {
+          begun = omega (arith, s .begun);
+          bytes = rw (next, many) place;
+          fits = omega (arith, same-out, s .fits);
+          store = rw (next, is-next) (run ∙ rw (s .store, start) (sets-append (linesFrom line from (i - from)) (line i) out₀ 0));
+        }
 
     -- it does not fit
     stopped : (last : ℕ) → i ≤ last → length out - at < n → most (length out₀) line from (1 + last - from) ≡ i - from
@@ -198,14 +189,14 @@ module _ {why : paper.Refusal} {number value : ℕ} (a : number ≡ why .number)
   pub refusal-no-room : (out : List ℕ) → length out < n → Refuses why out 0 out
   refusal-no-room out l = let z = lt-leb n (length out) l in record { answer = rw (long, z); after = rw (long, z) }
 
-  module _ (short : n ≤ length t′) (out : List ℕ) (l : n ≤ length out) where
+  module _ (out : List ℕ) (l : n ≤ length out) where
     pub refusal-fits : 0 + length (take n t′) ≤ length out
-    refusal-fits = rw (line-taken the-line short) (omega (arith, long))
+    refusal-fits = rw (put-first the-line) (omega (arith, long))
 
     pub refusal-put : {out′ : List ℕ} {r : ℕ} → Putting (take n t′) out 0 out′ r → Refuses why out r out′
     refusal-put q =
         let z = le-leb n (length out) l in
-        let e = line-taken the-line short in
+        let e = put-first the-line in
         let r : length (take n t′) ≡ n = ap length e ∙ long in
         record {
           answer = rw (long, z) (omega (arith, q .place));
@@ -214,43 +205,41 @@ module _ {why : paper.Refusal} {number value : ℕ} (a : number ≡ why .number)
 
 pub ruleset refusal-cases = (refusal-no-room, refusal-put)
 
--- ---- the answer counts bytes of the buffer
+-- ---- the answer counts bytes of the buffer: what a caller that takes these needs
 written-ok : {E A B : Type 0} {o : Outcome E A} {a : A} (entries : A → List B) (store : List B) → o ≡ ok a → written o entries store ≡ sets store 0 (entries a)
 unfolding written
 written-ok entries store e = rw e
 
-part-counts : {f : File} {len : ℕ} {place : Place} {out out′ : List ℕ} {r : Listed} {p : Part} → Lists f len place out r out′ → r ≡ listed.Part p → Counts (p .bytes) out′
-unfolding partOf fitting listedIn
-part-counts {f} {len} {place} {out} {out′} {r} {p} l e =
-    let a : partOf f len (fitting f len place (length out)) ≡ ok p = sym (l .answer) ∙ ap listedIn e in
-    came-by _ _ a λ x g a₁.
-    came-by _ _ g λ n _ g₁.
-    let lines : linesIn f len n (lineOf n place) (length out) ≡ x = ok-is g₁ in
-    let is : partIn f len x ≡ p = ok-is a₁ in
-    let m : length (textOf f len x) ≤ length out = rw (← lines) (most-fits (length out) (lineAt f len n) (lineOf n place) (1 + n - lineOf n place)) in
-    let b : p .bytes ≤ length out = rw (← is) m in
-    let w : written (fitting f len place (length out)) (textOf f len) out ≡ sets out 0 (textOf f len x) = written-ok (textOf f len) out g in
-    let k : length out′ ≡ length out = ap length (l .after ∙ w) ∙ length-sets out 0 (textOf f len x) in
-    (omega arith, simp length-take (omega arith))
-
-refusal-counts : {why : paper.Refusal} {out out′ : List ℕ} {r : ℕ} → Refuses why out r out′ → Counts r out′
-refusal-counts {why} {out} {out′} {r} x =
-    let fits : cond (leb (length (refusalText why)) (length out)) (length (refusalText why)) 0 ≤ length out = by-test (λ (k : ℕ). k ≤ length out) (leb (length (refusalText why)) (length out)) (λ e. leb-true _ _ e) (λ _. omega arith) in
-    let same : length (cond (leb (length (refusalText why)) (length out)) (sets out 0 (refusalText why)) out) ≡ length out = by-test (λ (k : List ℕ). length k ≡ length out) (leb (length (refusalText why)) (length out)) (λ _. length-sets out 0 (refusalText why)) (λ _. refl) in
-    let k : length out′ ≡ length out = ap length (x .after) ∙ same in
-    let b : r ≤ length out = rw (x .answer) fits in
-    (omega arith, simp length-take (omega arith))
-
 module _ {f : File} {len : ℕ} {place : Place} {out out′ : List ℕ} {r : Listed} {p : Part} (l : Lists f len place out r out′) (e : r ≡ listed.Part p) where
   pub part-within : p .bytes ≤ length out′
-  part-within = part-counts l e .0
+  unfolding partOf fitting listedIn
+  part-within =
+      let a : partOf f len (fitting f len place (length out)) ≡ ok p = sym (l .answer) ∙ ap listedIn e in
+      came-by _ _ a λ x g a₁.
+      came-by _ _ g λ n _ g₁.
+      let lines : linesIn f len n (lineOf n place) (length out) ≡ x = ok-is g₁ in
+      let is : partIn f len x ≡ p = ok-is a₁ in
+      let m : length (textOf f len x) ≤ length out = rw (← lines) (most-fits (length out) (lineAt f len n) (lineOf n place) (1 + n - lineOf n place)) in
+      let b : p .bytes ≤ length out = rw (← is) m in
+      let w : written (fitting f len place (length out)) (textOf f len) out ≡ sets out 0 (textOf f len x) = written-ok (textOf f len) out g in
+      rw (l .after ∙ w, length-sets) b
 
   pub part-count : p .bytes ≡ length (take (p .bytes) out′)
-  part-count = part-counts l e .1
+  part-count = sym (length-take-le (p .bytes) out′ part-within)
+
+-- the line if there is room for it, or nothing, is within the buffer
+module _ (xs out : List ℕ) where
+  abbrev room : Bool
+  room = leb (length xs) (length out)
+
+  line-within : cond room (length xs) 0 ≤ length (cond room (sets out 0 xs) out)
+  line-within =
+      let same : length (cond room (sets out 0 xs) out) ≡ length out = by-test (λ (l : List ℕ). length l ≡ length out) room (λ _. length-sets out 0 xs) (λ _. refl) in
+      rw same (by-test (λ (n : ℕ). n ≤ length out) room (λ e. leb-true _ _ e) (λ _. omega arith))
 
 module _ {why : paper.Refusal} {out out′ : List ℕ} {r : ℕ} (x : Refuses why out r out′) where
   pub refusal-within : r ≤ length out′
-  refusal-within = refusal-counts x .0
+  refusal-within = rw (x .answer, x .after) (line-within (refusalText why) out)
 
   pub refusal-count : r ≡ length (take r out′)
-  refusal-count = refusal-counts x .1
+  refusal-count = sym (length-take-le r out′ refusal-within)

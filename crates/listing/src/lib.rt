@@ -8,7 +8,6 @@ use listing_line::move_past;
 use listing_line::pages_before_line;
 use listing_line::write_line;
 use listing_text::LONGEST;
-use listing_text::put;
 use listing_text::write_refusal;
 pub use listing_whole::INPUT_LIMIT;
 use listing_whole::Judged;
@@ -19,6 +18,7 @@ use listing_whole::judge;
 pub use place::Place;
 use place::line_of;
 use place::place_of;
+use store::put;
 ghost use Prim.Native.Nat.{_+_, _≤_};
 ghost use lib.ListN.{length};
 ghost use Rattle.outcome.specs.Outcome.{Unchanged};
@@ -40,7 +40,8 @@ pub enum Listed {
 
 // As many whole lines as fit, from a place on, at the front of `out`. Each call judges the file anew.
 pub fn list(file: &[u8], from: Place, out: &mut [u8]) -> Listed
-    ensures { λ r. ⌜ Lists (byteAt (now (file .entry))) (length (now (file .entry))) from (now (out .entry)) r (now (out .exit)) ⌝ }
+    ensures { λ r. ⌜
+        Lists (byteAt (now (file .entry))) (length (now (file .entry))) from (now (out .entry)) r (now (out .exit)) ⌝ }
 {
     let judged = judge(file);
     let Judged::Listable(s) = judged else {
@@ -77,7 +78,10 @@ fn write_lines(file: &[u8], s: Listable, from: usize, text: &mut [u8], out: &mut
     requires { ⌜ Whole (byteAt (now file)) (length (now file)) s ⌝ }
     requires { ⌜ from ≤ 1 + s .count ⌝ }
     requires { ⌜ 80 ≤ length (now text) ⌝ }
-    ensures { λ r. ⌜ Writes (byteAt (now (file .entry))) (length (now (file .entry))) (linesIn (byteAt (now (file .entry))) (length (now (file .entry))) (s .count) from (length (now (out .entry)))) (now (out .entry)) r (now (out .exit)) ⌝ }
+    ensures { λ r. ⌜
+        Writes (byteAt (now (file .entry))) (length (now (file .entry)))
+        (linesIn (byteAt (now (file .entry))) (length (now (file .entry))) (s .count) from (length (now (out .entry))))
+        (now (out .entry)) r (now (out .exit)) ⌝ }
 {
     let last = s.count as usize;
     let mut line = from;

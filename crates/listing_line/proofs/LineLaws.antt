@@ -11,6 +11,8 @@ use mir.Syntax.{w64}
 use mir.Val.{Fits}
 use Rattle.outcome.specs.Outcome.{ok, refused, _>>=_, _>>_, require}
 use Rattle.outcome.proofs.OutcomeLaws.{by-test}
+use Rattle.store.specs.Putting.{Putting}
+use Rattle.store.proofs.PutLaws.{puts-more}
 use Rattle.parse_buffer.specs.Bytes.{File}
 use Rattle.paged.specs.Refusal.{refusalIn}
 use Rattle.paged.specs.PageSize.{PageSize, need}
@@ -29,9 +31,7 @@ use Rattle.stream.specs.declared.Sought.{Sought}
 use Rattle.stream.specs.declared.Sought.the-variants as sought
 use Rattle.msf.specs.Msf.{placed}
 use Rattle.msf.specs.Promises.{mapped}
-use Rattle.listing_text.specs.Text.{headText, sizeText, refusalText}
-use Rattle.listing_text.specs.Putting.{Putting}
-use Rattle.listing_text.proofs.TextLaws.{puts-more}
+use Rattle.listing_text.specs.Text.{headText, sizeText, absentText, refusalText}
 use Rattle.listing_whole.specs.Promises.{Whole}
 use Rattle.listing_whole.proofs.WholeLaws.{whole-at, whole-size}
 use Rattle.listing_whole.specs.declared.Listable.{Listable}
@@ -109,7 +109,7 @@ module _ {xs t t₁ t₂ : List ℕ} {r₁ r₂ : ℕ} {l : Line} (p : Putting x
   unfolding shownIn shownText
   text-stream e q = rw e (puts-more p q)
 
-  pub text-absent : l ≡ line.Absent → Putting (sizeText 0 0) t₁ r₁ t₂ r₂ → Putting (xs ++ shownText (shownIn l)) t 0 t₂ r₂
+  pub text-absent : l ≡ line.Absent → Putting absentText t₁ r₁ t₂ r₂ → Putting (xs ++ shownText (shownIn l)) t 0 t₂ r₂
   unfolding shownIn shownText
   text-absent e q = rw e (puts-more p q)
 

@@ -10,7 +10,7 @@ use Rattle.msf.specs.Msf.{placed}
 use Rattle.msf.specs.Promises.{mapped}
 use Rattle.msf.specs.declared.limit.Limit.the-variants.{None}
 use Rattle.msf.specs.declared.to_slices.Mapped.{Mapped}
-use Rattle.listing_text.specs.Text.{headText, streamText, sizeText, refusalText}
+use Rattle.listing_text.specs.Text.{headText, streamText, sizeText, absentText, refusalText}
 
 -- what a stream's line shows
 pub data Shown : Type 0 where
@@ -30,7 +30,7 @@ shown f len k = shownOf (mapped f (placed f len k None))
 -- "an absent stream shows as size 0 with 0 slices; another refusal of that mapping shows as `K refused C V`"
 unfoldable pub shownText : Shown → List ℕ
 shownText (present size slices) = sizeText size slices
-shownText absent = sizeText 0 0
+shownText absent = absentText
 shownText (mapping-refused why) = refusalText why
 
 -- "A line is number, size, slices"

@@ -22,8 +22,7 @@ ghost use Prim.Native.Nat.{_+_, _-_, _≤_, _<_};
 ghost use lib.ListN.{length};
 ghost use Rattle.parse_buffer.specs.Bytes.{byteAt};
 ghost use Rattle.stream.specs.Promises.{Before};
-ghost use Rattle.io.specs.Counts.{Counts};
-ghost use Rattle.listing_text.specs.Putting.{Putting};
+ghost use Rattle.store.specs.Putting.{Putting};
 ghost use Rattle.listing_whole.specs.Promises.{Whole};
 ghost use Rattle.listing_line.specs.Line.{lineText, lineAt, shown};
 ghost use Rattle.listing_line.specs.Promises.{shownIn, Up};
@@ -46,8 +45,9 @@ pub fn write_line(file: &[u8], s: Listable, line: usize, before: usize, text: &m
     requires { ⌜ line ≤ s .count ⌝ }
     requires { ⌜ Before (byteAt (now file)) (s .header .size) (line - 1) before ⌝ }
     requires { ⌜ 80 ≤ length (now text) ⌝ }
-    ensures { λ r. ⌜ Putting (lineAt (byteAt (now (file .entry))) (length (now (file .entry))) (s .count) line) (now (text .entry)) 0 (now (text .exit)) r ⌝ }
-    ensures { λ r. ⌜ Counts r (now (text .exit)) ⌝ }
+    ensures { λ r. ⌜
+        Putting (lineAt (byteAt (now (file .entry))) (length (now (file .entry))) (s .count) line)
+        (now (text .entry)) 0 (now (text .exit)) r ⌝ }
 {
     if line == 0 {
         return write_head(text, s.count);
@@ -60,7 +60,6 @@ pub fn write_line(file: &[u8], s: Listable, line: usize, before: usize, text: &m
 fn write_shown(text: &mut [u8], k: u32, line: Line) -> usize
     requires { ⌜ 80 ≤ length (now text) ⌝ }
     ensures { λ r. ⌜ Putting (lineText k (shownIn line)) (now (text .entry)) 0 (now (text .exit)) r ⌝ }
-    ensures { λ r. ⌜ Counts r (now (text .exit)) ⌝ }
 {
     let at = write_stream(text, k);
     match line {

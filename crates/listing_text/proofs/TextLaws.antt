@@ -1,52 +1,17 @@
--- Bytes put one run after another; the digits of a number.
-use mathlib.Core.Path.{_≡_, refl, sym, _∙_}
-use mathlib.Core.List.{List, [], _∷_, _++_, append-assoc, append-nil}
+-- The digits of a number are what `io::decimal` gives; and a line's parts, put run after run, are the line.
+use mathlib.Core.Path.{_≡_, _∙_}
+use mathlib.Core.List.{List, [], _∷_}
 use mathlib.Core.Logic.{⊎-elim}
 use Prim.Native.Nat.{ℕ, zero, suc, _+_, _-_, _/_, _%_, _^_, _≤_, _<_}
 use native.Mathlib.Omega.{arith}
 use native.Mathlib.Nat.{pow-le-pow-right}
 use borrow.Author.Tests.{lt-ltb, le-ltb}
-use lib.ListN.{length, take, drop, length-append, length-take, length-drop, drop-of-length-le}
-use lib.Seq.{sets, sets-eq, length-sets, take-all, drop-drop}
+use lib.ListN.{length, take, length-take}
 use Rattle.outcome.proofs.OutcomeLaws.{below-or}
-use Rattle.io.specs.Counts.{Counts}
+use Rattle.store.specs.Putting.{Putting}
+use Rattle.store.proofs.PutLaws.{puts-more}
 use Rattle.io.specs.Digits.{glyph, digits, Fewest}
-use Rattle.listing_text.specs.Text.{digit, spelled, decimal, refusedWord, blank, refusalText, sizeText}
-use Rattle.listing_text.specs.Putting.{Putting}
-
--- ---- runs
-pub sets-append : (xs ys l : List ℕ) (i : ℕ) → sets (sets l i xs) (i + length xs) ys ≡ sets l i (xs ++ ys)
-sets-append [] ys l i = let e : i + 0 ≡ i = omega arith in rw e
-sets-append (x ∷ xs) ys l i =
-    let e : i + suc (length xs) ≡ suc i + length xs = omega arith in
-    rw e (sets-append xs ys _ (suc i))
-
--- one run after another is one run
-pub puts-more : {xs ys t t₁ t₂ : List ℕ} {at r₁ r₂ : ℕ} → Putting xs t at t₁ r₁ → Putting ys t₁ r₁ t₂ r₂ → Putting (xs ++ ys) t at t₂ r₂
-puts-more {xs} {ys} {t} {at} p q =
-    record {
-      store = q .store ∙ rw (p .store, p .place) (sets-append xs ys t at);
-      place = q .place ∙ rw (p .place, length-append) (omega arith);
-    }
-
--- what `bytes::copy` leaves of a text of which a part was lent
-pub put-is : (s t ys : List ℕ) (at : ℕ) → at + length s ≤ length t → ys ≡ take (length s) s ++ drop (length s) (take (at + length s - at) (drop at t)) → take at t ++ (ys ++ drop (at + length s - at) (drop at t)) ≡ sets t at s
-put-is s t ys at h e =
-    let a : at + length s - at ≡ length s = omega arith in
-    let all : take (length s) s ≡ s = take-all (length s) s (omega arith) in
-    let short : length (take (length s) (drop at t)) ≤ length s = simp (length-take, length-drop) (omega arith) in
-    let none : drop (length s) (take (length s) (drop at t)) ≡ [] = drop-of-length-le _ short in
-    let same : ys ≡ s = e ∙ rw (a, all, none, append-nil) in
-    rw (a, same, drop-drop) (sym (append-assoc (take at t) s (drop (at + length s) t))) ∙ sym (sets-eq s t at h)
-
-module _ (s t ys : List ℕ) (at : ℕ) (fits : at + length s ≤ length t) (e : ys ≡ take (length s) s ++ drop (length s) (take (at + length s - at) (drop at t))) where
-  pub putting : Putting s t at (take at t ++ (ys ++ drop (at + length s - at) (drop at t))) (at + length s)
-  putting = record { store = put-is s t ys at fits e; place = refl }
-
-  pub put-counts : Counts (at + length s) (take at t ++ (ys ++ drop (at + length s - at) (drop at t)))
-  put-counts =
-      let same : length (sets t at s) ≡ length t = length-sets t at s in
-      rw (put-is s t ys at fits e) (omega arith, simp length-take (omega arith))
+use Rattle.listing_text.specs.Text.{digit, spelled, decimal, refusedWord, blank, refusalText, sizeText, absentText}
 
 -- ---- digits
 module _ (n : ℕ) where
@@ -94,17 +59,10 @@ module _ (n k : ℕ) (out : List ℕ) (few : Fewest 10 1 n k) (is : take k out �
   puts-number p = rw (← decimal-is) p
 
 -- ---- the parts of a line, run after run
-module _ {xs ys zs t t₁ t₂ t₃ : List ℕ} {at r₁ r₂ r₃ : ℕ} (p : Putting xs t at t₁ r₁) (q : Putting ys t₁ r₁ t₂ r₂) (s : Putting zs t₂ r₂ t₃ r₃) where
-  pub puts-three : Putting (xs ++ ys ++ zs) t at t₃ r₃
-  puts-three = puts-more (puts-more p q) s
-
-  pub puts-four : {us t₄ : List ℕ} {r₄ : ℕ} → Putting us t₃ r₃ t₄ r₄ → Putting (xs ++ ys ++ zs ++ us) t at t₄ r₄
-  puts-four u = puts-more puts-three u
-
 pub puts-refusal : (number value : ℕ) {t t₁ t₂ : List ℕ} {at r₁ r₂ : ℕ} → Putting refusedWord t at t₁ r₁ → Putting (sizeText number value) t₁ r₁ t₂ r₂ → Putting (refusalText (record { number = number; value = value })) t at t₂ r₂
 puts-refusal number value p q = puts-more p q
 
-pub puts-absent : {t t′ : List ℕ} {at r : ℕ} → Putting (0x30 ∷ 0x20 ∷ 0x30 ∷ 0x0a ∷ []) t at t′ r → Putting (sizeText 0 0) t at t′ r
+pub puts-absent : {t t′ : List ℕ} {at r : ℕ} → Putting (0x30 ∷ 0x20 ∷ 0x30 ∷ 0x0a ∷ []) t at t′ r → Putting absentText t at t′ r
 unfolding spelled
 puts-absent p = p
 

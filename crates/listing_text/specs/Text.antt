@@ -44,6 +44,10 @@ refusalText why = refusedWord ++ decimal (why .number) ++ blank ++ decimal (why 
 abbrev pub sizeText : ℕ → ℕ → List ℕ
 sizeText size slices = decimal size ++ blank ++ decimal slices ++ newline
 
+-- "an absent stream shows as size 0 with 0 slices"
+abbrev pub absentText : List ℕ
+absentText = sizeText 0 0
+
 -- a stream's number, which its line begins with
 abbrev pub streamText : ℕ → List ℕ
 streamText k = decimal k ++ blank

@@ -1,10 +1,10 @@
 // The bytes of the listing's lines, put one after another into a lent text, for the crates of the listing. Each
 // function starts at a place and returns the place after what it put. The caller guarantees room for the longest.
+use store::put;
 ghost use Prim.Native.Nat.{_+_, _≤_};
 ghost use lib.ListN.{length};
-ghost use Rattle.io.specs.Counts.{Counts};
-ghost use Rattle.listing_text.specs.Text.{decimal, streamText, headText, sizeText, refusalText};
-ghost use Rattle.listing_text.specs.Putting.{Putting};
+ghost use Rattle.store.specs.Putting.{Putting};
+ghost use Rattle.listing_text.specs.Text.{decimal, headText, streamText, sizeText, absentText, refusalText};
 
 // No line is longer: three numbers of up to 20 digits, a word, blanks, and the line's end.
 pub const LONGEST: usize = 80;
@@ -13,7 +13,6 @@ pub const LONGEST: usize = 80;
 pub fn write_head(text: &mut [u8], count: u32) -> usize
     requires { ⌜ 80 ≤ length (now text) ⌝ }
     ensures { λ r. ⌜ Putting (headText count) (now (text .entry)) 0 (now (text .exit)) r ⌝ }
-    ensures { λ r. ⌜ Counts r (now (text .exit)) ⌝ }
 {
     let word = put(text, 0, b"streams ");
     let number = put_number(text, word, count as u64);
@@ -30,20 +29,18 @@ pub fn write_stream(text: &mut [u8], stream: u32) -> usize
     put(text, number, b" ")
 }
 
-// A stream's size and slices.
+// What is shown of a present stream: its size and slices.
 pub fn write_size(text: &mut [u8], at: usize, size: u32, slices: usize) -> usize
     requires { ⌜ at + 42 ≤ length (now text) ⌝ }
     ensures { λ r. ⌜ Putting (sizeText size slices) (now (text .entry)) at (now (text .exit)) r ⌝ }
-    ensures { λ r. ⌜ Counts r (now (text .exit)) ⌝ }
 {
     put_numbers(text, at, size as u64, slices as u64)
 }
 
-// An absent stream: as if of size 0.
+// What is shown of an absent stream.
 pub fn write_absent(text: &mut [u8], at: usize) -> usize
     requires { ⌜ at + 4 ≤ length (now text) ⌝ }
-    ensures { λ r. ⌜ Putting (sizeText 0 0) (now (text .entry)) at (now (text .exit)) r ⌝ }
-    ensures { λ r. ⌜ Counts r (now (text .exit)) ⌝ }
+    ensures { λ r. ⌜ Putting absentText (now (text .entry)) at (now (text .exit)) r ⌝ }
 {
     put(text, at, b"0 0\n")
 }
@@ -51,8 +48,8 @@ pub fn write_absent(text: &mut [u8], at: usize) -> usize
 // `refused C V`, of a stream or of the whole file.
 pub fn write_refusal(text: &mut [u8], at: usize, number: u32, value: u64) -> usize
     requires { ⌜ at + 50 ≤ length (now text) ⌝ }
-    ensures { λ r. ⌜ Putting (refusalText (record { number = number; value = value })) (now (text .entry)) at (now (text .exit)) r ⌝ }
-    ensures { λ r. ⌜ Counts r (now (text .exit)) ⌝ }
+    ensures { λ r. ⌜
+        Putting (refusalText (record { number = number; value = value })) (now (text .entry)) at (now (text .exit)) r ⌝ }
 {
     let word = put(text, at, b"refused ");
     put_numbers(text, word, number as u64, value)
@@ -62,7 +59,6 @@ pub fn write_refusal(text: &mut [u8], at: usize, number: u32, value: u64) -> usi
 fn put_numbers(text: &mut [u8], at: usize, first: u64, second: u64) -> usize
     requires { ⌜ at + 42 ≤ length (now text) ⌝ }
     ensures { λ r. ⌜ Putting (sizeText first second) (now (text .entry)) at (now (text .exit)) r ⌝ }
-    ensures { λ r. ⌜ Counts r (now (text .exit)) ⌝ }
 {
     let number = put_number(text, at, first);
     let blank = put(text, number, b" ");
@@ -78,15 +74,4 @@ fn put_number(text: &mut [u8], at: usize, n: u64) -> usize
     let mut digits = [0u8; 20];
     let k = io::decimal(n, &mut digits);
     put(text, at, &digits[..k])
-}
-
-// These bytes, at a place.
-pub fn put(text: &mut [u8], at: usize, bytes: &[u8]) -> usize
-    requires { ⌜ at + length (now bytes) ≤ length (now text) ⌝ }
-    ensures { λ r. ⌜ Putting (now (bytes .entry)) (now (text .entry)) at (now (text .exit)) r ⌝ }
-    ensures { λ r. ⌜ Counts r (now (text .exit)) ⌝ }
-{
-    let n = bytes.len();
-    bytes::copy(bytes, &mut text[at..at + n]);
-    at + n
 }

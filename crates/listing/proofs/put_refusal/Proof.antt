@@ -1,6 +1,7 @@
 -- The line is made in `text`, and put where it fits whole.
 -- Assumes room for the longest line in `text`.
 use borrow.Author.Needs.{needs}
+use Rattle.store.proofs.PutLaws.{put-counts}
 use Rattle.listing.proofs.ListLaws.{refusal-cases, refusal-fits}
 use Rattle.listing.proofs.put_refusal.Statement.{statement}
 use Rattle.listing.proofs.put_refusal.Tie as tie
@@ -24,7 +25,7 @@ slice-reshare-prefix-put : tie.Need-slice-reshare-prefix-put
 slice-reshare-prefix-put c = search needs
 
 slice-aggregate-put : tie.Need-slice-aggregate-put
-slice-aggregate-put c = search needs
+slice-aggregate-put c = search put-counts
 
 put-requires : tie.Need-put-requires
 put-requires c κs = search (refusal-fits, needs)

@@ -4,6 +4,7 @@ use mathlib.Core.Path.{_≡_}
 use Prim.Native.Nat.{_+_, _-_, _≤_}
 use borrow.Author.Needs.{needs}
 use lib.ListN.{length}
+use Rattle.store.proofs.PutLaws.{put-counts}
 use Rattle.parse_buffer.specs.Bytes.{byteAt}
 use Rattle.stream.specs.Promises.{Before}
 use Rattle.listing_line.specs.Line.{lineAt}
@@ -49,7 +50,7 @@ slice-reshare-prefix-put : tie.Need-slice-reshare-prefix-put Inv-loop μ-loop
 slice-reshare-prefix-put c = search needs
 
 slice-aggregate-put : tie.Need-slice-aggregate-put Inv-loop μ-loop
-slice-aggregate-put c = search needs
+slice-aggregate-put c = search put-counts
 
 put-requires : tie.Need-put-requires Inv-loop μ-loop
 put-requires c κs = search (so-room, needs)
@@ -64,7 +65,7 @@ loop-less : tie.Need-loop-less Inv-loop μ-loop
 loop-less c = search needs
 
 loop-again : tie.Need-loop-again Inv-loop μ-loop
-loop-again c = (search needs, search needs, so-more (c .before .before .before .before .before .before .before .before .before .before .before .before .loop .inv .2) (c .before .before .before .before .before .before .before .before .before .write-line .ensures .0) (c .before .before .before .before .before .before .before .before .before .write-line .ensures .1 .0) (search needs) (c .before .before .before .put .ensures .0), search needs)
+loop-again c = (search needs, search needs, so-more (c .before .before .before .before .before .before .before .before .before .before .before .before .loop .inv .2) (c .before .before .before .before .before .before .before .before .before .write-line .ensures) (search needs) (c .before .before .before .put .ensures), search needs)
 
 same-length-3 : tie.Need-same-length-3 Inv-loop μ-loop
 same-length-3 c = search needs

@@ -12,7 +12,7 @@ same-length : tie.Need-same-length
 same-length c = search needs
 
 returns : tie.Need-returns
-returns c = (search line-cases, search needs)
+returns c = search line-cases
 
 sub-k : tie.Need-sub-k
 sub-k c = search needs
@@ -30,7 +30,7 @@ same-length-2 : tie.Need-same-length-2
 same-length-2 c = search needs
 
 returns-2 : tie.Need-returns-2
-returns-2 c = (search line-cases, search needs)
+returns-2 c = search line-cases
 
 pub write-line-spec : {M : Type 1} → statement M
 write-line-spec =

@@ -36,19 +36,19 @@ same-length : tie.Need-same-length
 same-length c = search needs
 
 returns : tie.Need-returns
-returns c = (search text-cases, search needs)
+returns c = search text-cases
 
 same-length-2 : tie.Need-same-length-2
 same-length-2 c = search needs
 
 returns-2 : tie.Need-returns-2
-returns-2 c = (search text-cases, search needs)
+returns-2 c = search text-cases
 
 same-length-3 : tie.Need-same-length-3
 same-length-3 c = search needs
 
 returns-3 : tie.Need-returns-3
-returns-3 c = (search text-cases, search needs)
+returns-3 c = search text-cases
 
 pub write-shown-spec : {M : Type 1} → statement M
 write-shown-spec =

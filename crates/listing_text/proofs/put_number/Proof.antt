@@ -1,5 +1,5 @@
--- What `io::decimal` puts is the number in decimal (`TextLaws`).
--- Assumes room for 20 digits.
+-- `io::decimal` gives the fewest digits, and those are what `decimal` spells (`TextLaws`). A number of 64 bits has at
+-- most 20 digits, so the place moves by at most 20. Assumes room for 20 bytes.
 use borrow.Author.Needs.{needs}
 use Rattle.listing_text.proofs.TextLaws.{puts-number, number-room, number-short}
 use Rattle.listing_text.proofs.put_number.Statement.{statement}

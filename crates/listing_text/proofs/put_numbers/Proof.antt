@@ -1,7 +1,7 @@
--- One run after another.
--- Assumes room for the longest.
+-- Each run begins where the one before ended, so the four together are one run (`puts-four`). Two numbers, a blank and
+-- the newline are at most 42 bytes. Assumes room for 42 bytes.
 use borrow.Author.Needs.{needs}
-use Rattle.listing_text.proofs.TextLaws.{puts-four}
+use Rattle.store.proofs.PutLaws.{puts-four}
 use Rattle.listing_text.proofs.put_numbers.Statement.{statement}
 use Rattle.listing_text.proofs.put_numbers.Tie as tie
 
@@ -27,7 +27,7 @@ same-length : tie.Need-same-length
 same-length c = search needs
 
 returns : tie.Need-returns
-returns c = (search puts-four, search needs)
+returns c = search puts-four
 
 pub put-numbers-spec : {M : Type 1} → statement M
 put-numbers-spec =

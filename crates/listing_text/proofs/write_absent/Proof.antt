@@ -1,5 +1,4 @@
--- One run after another.
--- Assumes room for the longest.
+-- The bytes of the literal are `absentText`, by computation. Assumes room for them.
 use borrow.Author.Needs.{needs}
 use Rattle.listing_text.proofs.TextLaws.{puts-absent}
 use Rattle.listing_text.proofs.write_absent.Statement.{statement}
@@ -15,7 +14,7 @@ same-length : tie.Need-same-length
 same-length c = search needs
 
 returns : tie.Need-returns
-returns c = (search puts-absent, search needs)
+returns c = search puts-absent
 
 pub write-absent-spec : {M : Type 1} → statement M
 write-absent-spec = tie.close (tie.spec slice-aggregate-put put-requires same-length returns)

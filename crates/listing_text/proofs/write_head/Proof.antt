@@ -1,7 +1,7 @@
--- One run after another.
--- Assumes room for the longest.
+-- Word, number and newline each begin where the one before ended, so together they are one run (`puts-three`). Assumes
+-- room for 80 bytes.
 use borrow.Author.Needs.{needs}
-use Rattle.listing_text.proofs.TextLaws.{puts-three}
+use Rattle.store.proofs.PutLaws.{puts-three}
 use Rattle.listing_text.proofs.write_head.Statement.{statement}
 use Rattle.listing_text.proofs.write_head.Tie as tie
 
@@ -24,7 +24,7 @@ same-length : tie.Need-same-length
 same-length c = search needs
 
 returns : tie.Need-returns
-returns c = (search puts-three, search needs)
+returns c = search puts-three
 
 pub write-head-spec : {M : Type 1} → statement M
 write-head-spec =

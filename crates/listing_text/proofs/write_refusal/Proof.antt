@@ -1,5 +1,5 @@
--- One run after another.
--- Assumes room for the longest.
+-- The two numbers begin where the word ended, so together they are one run, the refusal's text. Assumes room for 50
+-- bytes.
 use borrow.Author.Needs.{needs}
 use Rattle.listing_text.proofs.TextLaws.{puts-refusal}
 use Rattle.listing_text.proofs.write_refusal.Statement.{statement}
@@ -18,7 +18,7 @@ same-length : tie.Need-same-length
 same-length c = search needs
 
 returns : tie.Need-returns
-returns c = (search puts-refusal, search needs)
+returns c = search puts-refusal
 
 pub write-refusal-spec : {M : Type 1} → statement M
 write-refusal-spec =

@@ -1,5 +1,4 @@
--- The size, then the slices.
--- Assumes room for the longest.
+-- The text of a size and its slices is that of two numbers, which `put_numbers` puts. Assumes room for 42 bytes.
 use borrow.Author.Needs.{needs}
 use Rattle.listing_text.proofs.write_size.Statement.{statement}
 use Rattle.listing_text.proofs.write_size.Tie as tie

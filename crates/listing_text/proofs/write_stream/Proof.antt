@@ -1,7 +1,8 @@
--- One run after another.
--- Assumes room for the longest.
+-- The blank begins where the number ended, so together they are one run (`puts-more`). The number has at most 20
+-- digits, so the place after the blank is at most 21. Assumes room for 80 bytes.
 use borrow.Author.Needs.{needs}
-use Rattle.listing_text.proofs.TextLaws.{puts-more, stream-short}
+use Rattle.store.proofs.PutLaws.{puts-more}
+use Rattle.listing_text.proofs.TextLaws.{stream-short}
 use Rattle.listing_text.proofs.write_stream.Statement.{statement}
 use Rattle.listing_text.proofs.write_stream.Tie as tie
 
