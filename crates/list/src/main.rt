@@ -1,5 +1,5 @@
-// Lists the container on standard input: which streams it holds. The library judges and makes the lines; here they are
-// only passed on.
+// Lists the container on standard input: which streams it holds. The library judges the file and makes the lines; this
+// program prints them.
 use libc::STDIN_FILENO;
 use libc::STDOUT_FILENO;
 use listing::INPUT_LIMIT;
@@ -19,7 +19,8 @@ fn main() {
     }
 }
 
-// Part after part. A proved loop has to end: each turn passes a line on at least, and no listing has so many.
+// Prints part after part. A proved loop has to end, so this one counts its turns down. Each turn prints at least one
+// line, and no listing has so many.
 fn print_listing(file: &[u8], out: &mut [u8]) {
     let mut from = Place::Head;
     let mut turns = u64::MAX;
@@ -36,8 +37,8 @@ fn goes_on(place: Place) -> bool {
     }
 }
 
-// The lines from a place on, as many as `out` holds, and the place after them; the end where nothing more is to be
-// written, or can be.
+// Prints the lines from a place on, as many as `out` holds, and returns the place after them: the end if no line is
+// left, if the file is refused, or if writing fails.
 fn print_part(file: &[u8], from: Place, out: &mut [u8]) -> Place {
     let listed = listing::list(file, from, out);
     let Listed::Part(part) = listed else {

@@ -1,4 +1,5 @@
--- Line after line: what stands in the buffer after some of them, and that no more fit when the loop stops.
+-- Line after line: what stands in the buffer after some of them, and that no more fit when the loop stops. Then what the
+-- two operations return.
 use mathlib.Core.Path.{_≡_, refl, sym, _∙_, ap}
 use mathlib.Core.Bool.{Bool, cond}
 use mathlib.Core.List.{List, _++_}
@@ -9,25 +10,25 @@ use borrow.Author.Tests.{le-leb, lt-leb, leb-true}
 use lib.Dec.{leb}
 use lib.ListN.{length, take, length-append}
 use lib.Seq.{sets, length-sets, length-take-le}
-use Rattle.outcome.specs.Outcome.{Outcome, ok, refused, _>>=_, Unchanged}
+use Rattle.outcome.specs.Outcome.{Outcome, ok, refused, _>>=_}
 use Rattle.outcome.specs.Refusal as paper
-use Rattle.outcome.proofs.OutcomeLaws.{by-test, came-by, ok-is, unchanged, unreached}
+use Rattle.outcome.proofs.OutcomeLaws.{by-test, came-by, ok-is}
 use Rattle.outcome.specs.Store.{written}
 use Rattle.store.specs.Putting.{Putting}
 use Rattle.store.proofs.SetsLaws.{sets-append}
 use Rattle.store.proofs.PutLaws.{put-first}
 use Rattle.parse_buffer.specs.Bytes.{File}
 use Rattle.listing_text.specs.Text.{refusalText}
-use Rattle.listing_whole.specs.Whole.{listable}
-use Rattle.listing_whole.specs.Promises.{listRefusalIn, judgedIn, Judges}
+use Rattle.listing_whole.specs.Whole.{listRefusalIn, listable}
+use Rattle.listing_whole.specs.Inner.{judgedIn, whyNot, Judges}
 use Rattle.listing_whole.proofs.WholeLaws.{whole-is, whole-at, refused-whole}
 use Rattle.listing_whole.specs.declared.refusal.ListRefusal.{ListRefusal}
 use Rattle.listing_whole.specs.declared.Listable.{Listable}
 use Rattle.listing_whole.specs.declared.Judged.{Judged}
 use Rattle.listing_whole.specs.declared.Judged.the-variants as judged
 use Rattle.listing_line.specs.Line.{lineAt}
-use Rattle.listing.specs.Listing.{linesFrom, lineOf, placeOf, most}
-use Rattle.listing.specs.Promises.{listedIn, linesIn, fitting, textOf, partIn, partOf, Lists, Refuses}
+use Rattle.listing.specs.Listing.{linesFrom, lineOf, placeOf, most, linesIn, fitting, textOf, partIn, partOf}
+use Rattle.listing.specs.Promises.{listedIn, Lists, Refuses}
 use Rattle.listing.specs.Inner.{Writes}
 use Rattle.listing.proofs.PlaceLaws.{place-end}
 use Rattle.listing.specs.declared.place.Place.{Place}
@@ -147,25 +148,13 @@ module _ (f : File) (len count from : ℕ) {i at : ℕ} {out₀ out : List ℕ} 
 
 pub ruleset write-cases = (so-none, so-more, write-stops, write-ends)
 
--- ---- handing up
-module _ {r : Judged} where
-  pub judged-refused : {why : ListRefusal} → r ≡ judged.Refused why → Unchanged (judgedIn r) (listedIn (listed.Refused why))
-  unfolding judgedIn listedIn
-  judged-refused e = unchanged (ap judgedIn e) refl
-
-  pub judged-listable : {s : Listable} (x : Listed) → r ≡ judged.Listable s → Unchanged (judgedIn r) (listedIn x)
-  unfolding judgedIn
-  judged-listable x e = unreached (ap judgedIn e)
-
-pub ruleset up-cases = (judged-refused, judged-listable)
-
 -- ---- `list`
 module _ {f : File} {len : ℕ} {r : Judged} (p : Judges f len r) where
-  pub list-refused : {why : ListRefusal} (x : Listed) (place : Place) (out : List ℕ) → r ≡ judged.Refused why → Unchanged (judgedIn r) (listedIn x) → Lists f len place out x out
-  unfolding fitting partOf written judgedIn _>>=_
-  list-refused {why} x place out e u =
-      let g : listable f len ≡ refused (listRefusalIn why) = refused-whole f len (sym (p .answer) ∙ ap judgedIn e) in
-      record { answer = u .is _ (ap judgedIn e) ∙ rw g; after = rw g }
+  pub list-refused : {why w : ListRefusal} (place : Place) (out : List ℕ) → r ≡ judged.Refused why → w ≡ whyNot r → Lists f len place out (listed.Refused w) out
+  unfolding fitting partOf written judgedIn listedIn _>>=_
+  list-refused {why} place out e g =
+      let same : listable f len ≡ refused (listRefusalIn why) = refused-whole f len (sym (p .answer) ∙ ap judgedIn e) in
+      record { answer = rw (g, e, same); after = rw same }
 
   pub list-fine : {s : Listable} {part : Part} (place : Place) {line : ℕ} {out out′ : List ℕ} → r ≡ judged.Listable s → line ≡ lineOf (s .count) place → Writes f len (linesIn f len (s .count) line (length out)) out part out′ → Lists f len place out (listed.Part part) out′
   unfolding fitting partOf written listedIn _>>=_

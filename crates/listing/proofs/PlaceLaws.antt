@@ -1,4 +1,4 @@
--- A place and its line.
+-- The line at a place, and the place of a line.
 use mathlib.Core.Path.{_≡_, refl}
 use Prim.Native.Nat.{ℕ, zero, suc, _+_, _-_, min, _≤_, _<_}
 use native.Mathlib.Omega.{arith}

@@ -4,7 +4,7 @@ use mathlib.Core.List.{List}
 use Prim.Native.Nat.{ℕ}
 use lib.Seq.{sets}
 use Rattle.parse_buffer.specs.Bytes.{File}
-use Rattle.listing.specs.Promises.{Lines, textOf, partIn}
+use Rattle.listing.specs.Listing.{Lines, textOf, partIn}
 use Rattle.listing.specs.declared.Part.{Part}
 
 -- these lines stand in the buffer

@@ -2,19 +2,17 @@
 use mathlib.Core.Path.{_≡_}
 use mathlib.Core.Bool.{cond}
 use mathlib.Core.List.{List}
-use Prim.Native.Nat.{ℕ, _+_, _-_}
+use Prim.Native.Nat.{ℕ}
 use lib.Dec.{leb}
 use lib.ListN.{length}
 use lib.Seq.{sets}
-use Rattle.outcome.specs.Outcome.{Outcome, ok, refused, _>>=_}
+use Rattle.outcome.specs.Outcome.{Outcome, ok, refused}
 use Rattle.outcome.specs.Refusal as paper
 use Rattle.outcome.specs.Store.{written}
 use Rattle.parse_buffer.specs.Bytes.{File}
 use Rattle.listing_text.specs.Text.{refusalText}
-use Rattle.listing_whole.specs.Whole.{listable}
-use Rattle.listing_whole.specs.Promises.{listRefusalIn}
-use Rattle.listing_line.specs.Line.{lineAt}
-use Rattle.listing.specs.Listing.{linesFrom, lineOf, placeOf, most}
+use Rattle.listing_whole.specs.Whole.{listRefusalIn}
+use Rattle.listing.specs.Listing.{fitting, textOf, partOf}
 use Rattle.listing.specs.declared.place.Place.{Place}
 use Rattle.listing.specs.declared.Part.{Part}
 use Rattle.listing.specs.declared.Listed.{Listed}
@@ -26,32 +24,6 @@ listedIn (listed.Part p) = ok p
 listedIn (listed.Refused why) = refused (listRefusalIn why)
 
 -- ---- `list`: as many whole lines as fit, from a place on
-pub record Lines : Type 0 where
-  pub count : ℕ
-  pub from : ℕ
-  pub many : ℕ
-
-abbrev pub linesIn : File → ℕ → ℕ → ℕ → ℕ → Lines
-linesIn f len n from room = record { count = n; from = from; many = most room (lineAt f len n) from (1 + n - from) }
-
-unfoldable pub fitting : File → ℕ → Place → ℕ → Outcome paper.Refusal Lines
-fitting f len place room = do
-  n ← listable f len
-  ok (linesIn f len n (lineOf n place) room)
-
--- their bytes
-abbrev pub textOf : File → ℕ → Lines → List ℕ
-textOf f len l = linesFrom (lineAt f len (l .count)) (l .from) (l .many)
-
--- how many bytes, and where the listing goes on
-abbrev pub partIn : File → ℕ → Lines → Part
-partIn f len l = record { bytes = length (textOf f len l); next = placeOf (l .count) (l .from + l .many) }
-
-unfoldable pub partOf : File → ℕ → Outcome paper.Refusal Lines → Outcome paper.Refusal Part
-partOf f len o = do
-  l ← o
-  ok (partIn f len l)
-
 pub record Lists (f : File) (len : ℕ) (place : Place) (out : List ℕ) (r : Listed) (out′ : List ℕ) : Type 0 where
   pub answer : listedIn r ≡ partOf f len (fitting f len place (length out))
   pub after : out′ ≡ written (fitting f len place (length out)) (textOf f len) out

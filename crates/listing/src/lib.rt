@@ -1,4 +1,4 @@
-// The listing of a container: which streams it holds. The head, then a line a stream, as bytes in a lent buffer.
+// The listing of a container, as bytes in a lent buffer: the head, then one line for each stream that it holds.
 //
 // place.rt: places in a listing. This file: the two operations. Below them stand the crates `listing_text`, the bytes
 // of lines; `listing_whole`, whether a file is listed; `listing_line`, what a stream's line shows.
@@ -21,10 +21,11 @@ use place::place_of;
 use store::put;
 ghost use Prim.Native.Nat.{_+_, _≤_};
 ghost use lib.ListN.{length};
-ghost use Rattle.outcome.specs.Outcome.{Unchanged};
 ghost use Rattle.parse_buffer.specs.Bytes.{byteAt};
-ghost use Rattle.listing_whole.specs.Promises.{listRefusalIn, judgedIn, Whole};
-ghost use Rattle.listing.specs.Promises.{listedIn, linesIn, Lists, Refuses};
+ghost use Rattle.listing_whole.specs.Whole.{listRefusalIn};
+ghost use Rattle.listing_whole.specs.Inner.{Whole};
+ghost use Rattle.listing.specs.Listing.{linesIn};
+ghost use Rattle.listing.specs.Promises.{Lists, Refuses};
 ghost use Rattle.listing.specs.Inner.{Writes};
 
 // Whole lines: how many bytes they have, and where the listing goes on.
@@ -38,14 +39,14 @@ pub enum Listed {
     Refused(ListRefusal),
 }
 
-// As many whole lines as fit, from a place on, at the front of `out`. Each call judges the file anew.
+// Writes as many whole lines as fit, from a place on, to the front of `out`. Each call judges the file anew.
 pub fn list(file: &[u8], from: Place, out: &mut [u8]) -> Listed
     ensures { λ r. ⌜
         Lists (byteAt (now (file .entry))) (length (now (file .entry))) from (now (out .entry)) r (now (out .exit)) ⌝ }
 {
     let judged = judge(file);
     let Judged::Listable(s) = judged else {
-        return up(judged);
+        return Listed::Refused(judged.why());
     };
     let line = line_of(s.count, from);
     let mut text = [0u8; LONGEST];
@@ -53,7 +54,7 @@ pub fn list(file: &[u8], from: Place, out: &mut [u8]) -> Listed
     Listed::Part(part)
 }
 
-// The one line of a file that is not listed, where it fits: how many bytes were written.
+// Writes the one line of a file that is not listed, if it fits, and returns how many bytes it wrote.
 pub fn list_refusal(why: ListRefusal, out: &mut [u8]) -> usize
     ensures { λ r. ⌜ Refuses (listRefusalIn why) (now (out .entry)) r (now (out .exit)) ⌝ }
 {
@@ -61,7 +62,7 @@ pub fn list_refusal(why: ListRefusal, out: &mut [u8]) -> usize
     put_refusal(why, &mut text, out)
 }
 
-// By way of `text`, since only a whole line is put.
+// Makes the line in `text` first, since only a whole line is written to `out`.
 fn put_refusal(why: ListRefusal, text: &mut [u8], out: &mut [u8]) -> usize
     requires { ⌜ 80 ≤ length (now text) ⌝ }
     ensures { λ r. ⌜ Refuses (listRefusalIn why) (now (out .entry)) r (now (out .exit)) ⌝ }
@@ -73,7 +74,7 @@ fn put_refusal(why: ListRefusal, text: &mut [u8], out: &mut [u8]) -> usize
     put(out, 0, &text[..n])
 }
 
-// Line after line, each by way of `text`; the pages before each stream are carried along.
+// Makes line after line in `text`, and copies each that fits. The count of pages before each stream is carried along.
 fn write_lines(file: &[u8], s: Listable, from: usize, text: &mut [u8], out: &mut [u8]) -> Part
     requires { ⌜ Whole (byteAt (now file)) (length (now file)) s ⌝ }
     requires { ⌜ from ≤ 1 + s .count ⌝ }
@@ -102,14 +103,5 @@ fn write_lines(file: &[u8], s: Listable, from: usize, text: &mut [u8], out: &mut
     Part {
         bytes: at,
         next: Place::End,
-    }
-}
-
-fn up(judged: Judged) -> Listed
-    ensures { λ r. ⌜ Unchanged (judgedIn judged) (listedIn r) ⌝ }
-{
-    match judged {
-        Judged::Refused(why) => Listed::Refused(why),
-        Judged::Listable(_) => Listed::Refused(ListRefusal::OverLimit(STREAM_LIMIT)),
     }
 }

@@ -22,7 +22,7 @@ pub(crate) fn line_of(count: u32, place: Place) -> usize
     }
 }
 
-// And the place of a line.
+// The place of a line.
 pub(crate) fn place_of(count: u32, line: usize) -> Place
     ensures { λ r. ⌜ r ≡ placeOf count line ⌝ }
 {

@@ -1,4 +1,4 @@
--- What a line shows is the answer of mapping its stream afresh; the carried count is that of the streams before it.
+-- What a line shows is the answer of mapping its stream afresh, and the carried count is the pages of the streams before it.
 use mathlib.Core.Path.{_≡_, refl, sym, _∙_, ap}
 use mathlib.Core.List.{List, _++_}
 use Prim.Native.Nat.{ℕ, zero, suc, _+_, _-_, _*_, _/_, _^_, _≤_, _<_}
@@ -32,11 +32,11 @@ use Rattle.stream.specs.declared.Sought.the-variants as sought
 use Rattle.msf.specs.Msf.{placed}
 use Rattle.msf.specs.Promises.{mapped}
 use Rattle.listing_text.specs.Text.{headText, sizeText, absentText, refusalText}
-use Rattle.listing_whole.specs.Promises.{Whole}
+use Rattle.listing_whole.specs.Inner.{Whole}
 use Rattle.listing_whole.proofs.WholeLaws.{whole-at, whole-size}
 use Rattle.listing_whole.specs.declared.Listable.{Listable}
 use Rattle.listing_line.specs.Line.{Shown, mapping-refused, shownOf, shown, shownText, lineText, lineAt}
-use Rattle.listing_line.specs.Promises.{shownIn, Up}
+use Rattle.listing_line.specs.Inner.{shownIn, Up}
 use Rattle.listing_line.specs.declared.Shown as code
 use Rattle.listing_line.specs.declared.Line.{Line}
 use Rattle.listing_line.specs.declared.Line.the-variants as line
@@ -142,7 +142,7 @@ pub past-head : {f : File} {p b : ℕ} (i : ℕ) → i ≡ 0 → Before f p (i -
 past-head i e before = rw e (rw e at before)
 
 module _ {f : File} {len : ℕ} {s : Listable} (w : Whole f len s) (i : ℕ) (has : i ≤ s .count) {b n : ℕ} (before : Before f (s .header .size) (i - 1) b) (size : ℕ) (pages : n ≡ pagesOf (s .header .size) size) (fits : size < 2 ^ 32) where
-  -- as few as bytes at the most
+  -- at most as many as bytes
   few : pagesOf (s .header .size) size ≤ 2 ^ 32
   unfolding pagesOf
   few =

@@ -27,7 +27,7 @@ shownOf (refused why) = cond (eqb (why .number) 5) absent (mapping-refused why)
 abbrev pub shown : File → ℕ → ℕ → Shown
 shown f len k = shownOf (mapped f (placed f len k None))
 
--- "an absent stream shows as size 0 with 0 slices; another refusal of that mapping shows as `K refused C V`"
+-- after the stream's number; "another refusal of that mapping shows as `K refused C V`"
 unfoldable pub shownText : Shown → List ℕ
 shownText (present size slices) = sizeText size slices
 shownText absent = absentText

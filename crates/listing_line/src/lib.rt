@@ -1,5 +1,6 @@
 // A line of the listing, for crate `listing`. A stream's line shows the answer of mapping it whole, without a store.
-// The pages before it come from the line before, so that all lines together walk each size once.
+// The count of pages before it is carried from line to line: adding up the earlier sizes anew for each line would take
+// the square of their number.
 use listing_text::write_absent;
 use listing_text::write_head;
 use listing_text::write_refusal;
@@ -23,9 +24,9 @@ ghost use lib.ListN.{length};
 ghost use Rattle.parse_buffer.specs.Bytes.{byteAt};
 ghost use Rattle.stream.specs.Promises.{Before};
 ghost use Rattle.store.specs.Putting.{Putting};
-ghost use Rattle.listing_whole.specs.Promises.{Whole};
+ghost use Rattle.listing_whole.specs.Inner.{Whole};
 ghost use Rattle.listing_line.specs.Line.{lineText, lineAt, shown};
-ghost use Rattle.listing_line.specs.Promises.{shownIn, Up};
+ghost use Rattle.listing_line.specs.Inner.{shownIn, Up};
 
 // A stream's size, and how many slices it has.
 struct Shown {
@@ -39,7 +40,7 @@ enum Line {
     Refused(Refusal),
 }
 
-// The text of a line of the listing, at the front of `text`: how many bytes.
+// Writes a line of the listing to the front of `text`, and returns how many bytes it has.
 pub fn write_line(file: &[u8], s: Listable, line: usize, before: usize, text: &mut [u8]) -> usize
     requires { ⌜ Whole (byteAt (now file)) (length (now file)) s ⌝ }
     requires { ⌜ line ≤ s .count ⌝ }
@@ -57,6 +58,7 @@ pub fn write_line(file: &[u8], s: Listable, line: usize, before: usize, text: &m
     write_shown(text, k, shown)
 }
 
+// Writes the line of stream k.
 fn write_shown(text: &mut [u8], k: u32, line: Line) -> usize
     requires { ⌜ 80 ≤ length (now text) ⌝ }
     ensures { λ r. ⌜ Putting (lineText k (shownIn line)) (now (text .entry)) 0 (now (text .exit)) r ⌝ }
@@ -69,7 +71,7 @@ fn write_shown(text: &mut [u8], k: u32, line: Line) -> usize
     }
 }
 
-// The line of a stream, given how many page numbers the streams before it have.
+// What the line of a stream shows. `before` is how many page numbers the streams before it have.
 fn show(file: &[u8], s: Listable, stream: StreamNumber, before: usize) -> Line
     requires { ⌜ Whole (byteAt (now file)) (length (now file)) s ⌝ }
     requires { ⌜ stream .0 < s .count ⌝ }
@@ -111,7 +113,7 @@ fn up(found: Sought) -> Line
     }
 }
 
-// The page numbers before the stream of a line, or before the first stream's.
+// How many page numbers the streams before a line's stream have; for the head, 0.
 pub fn pages_before_line(file: &[u8], s: Listable, line: usize) -> usize
     requires { ⌜ Whole (byteAt (now file)) (length (now file)) s ⌝ }
     requires { ⌜ line ≤ 1 + s .count ⌝ }
@@ -124,7 +126,7 @@ pub fn pages_before_line(file: &[u8], s: Listable, line: usize) -> usize
     pages_before(file, h.size as usize, line - 1)
 }
 
-// And those before the stream of the next line, given those before this one's.
+// The same for the next line, given the count for this one.
 pub fn move_past(file: &[u8], s: Listable, line: usize, before: usize) -> usize
     requires { ⌜ Whole (byteAt (now file)) (length (now file)) s ⌝ }
     requires { ⌜ line ≤ s .count ⌝ }

@@ -49,7 +49,8 @@ pub fn write_absent(text: &mut [u8], at: usize) -> usize
 pub fn write_refusal(text: &mut [u8], at: usize, number: u32, value: u64) -> usize
     requires { ⌜ at + 50 ≤ length (now text) ⌝ }
     ensures { λ r. ⌜
-        Putting (refusalText (record { number = number; value = value })) (now (text .entry)) at (now (text .exit)) r ⌝ }
+        Putting (refusalText (record { number = number; value = value }))
+        (now (text .entry)) at (now (text .exit)) r ⌝ }
 {
     let word = put(text, at, b"refused ");
     put_numbers(text, word, number as u64, value)

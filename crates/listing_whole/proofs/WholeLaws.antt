@@ -1,4 +1,4 @@
--- The ways out of judging a file, and what a file that is listed is known to be.
+-- What `judging` gives at each return of `judge`; and what is known of a file that is listed.
 use mathlib.Core.Path.{_≡_, refl, sym, _∙_, ap}
 use mathlib.Core.Logic.{⊎-elim}
 use Prim.Native.Nat.{ℕ, _+_, _*_, _/_, _≤_, _<_}
@@ -21,14 +21,14 @@ use Rattle.header.specs.declared.Headed.the-variants as headed
 use Rattle.directory.specs.Directory.{reached, streamCount}
 use Rattle.directory.specs.Promises.{Reaching}
 use Rattle.directory.proofs.DirectoryLaws.{reached-located, reached-size}
-use Rattle.listing_whole.specs.Whole.{inputLimit, streamLimit, listable}
-use Rattle.listing_whole.specs.Promises.{judging, judgedIn, Judges, Whole}
+use Rattle.listing_whole.specs.Whole.{inputLimit, streamLimit, listable, judging}
+use Rattle.listing_whole.specs.Inner.{judgedIn, whyNot, Judges, Whole}
 use Rattle.listing_whole.specs.declared.refusal.ListRefusal.the-variants.{Container, OverLimit}
 use Rattle.listing_whole.specs.declared.Listable.{Listable}
 use Rattle.listing_whole.specs.declared.Judged.{Judged}
 use Rattle.listing_whole.specs.declared.Judged.the-variants as judged
 
--- ---- handing up
+-- ---- handing a refusal up
 module _ {r : Headed} where
   pub headed-refused : {why : Refusal} → r ≡ headed.Refused why → Unchanged (headedIn r) (judgedIn (judged.Refused (Container why)))
   unfolding headedIn judgedIn
@@ -39,6 +39,10 @@ module _ {r : Headed} where
   headed-container x e = unreached (ap headedIn e)
 
 pub ruleset up-cases = (headed-refused, headed-container)
+
+-- ---- `Judged::why`
+pub why-listable : {r : Judged} {s : Listable} → r ≡ judged.Listable s → OverLimit streamLimit ≡ whyNot r
+why-listable e = rw e
 
 -- the directory_size that was read is the header's own
 size-read : (f : File) (len : ℕ) {h : Header} → reached f len ≡ ok h → headerOf f .directory ≡ h .directory
@@ -100,7 +104,7 @@ module _ {f : File} {len : ℕ} (l₀ : len ≤ inputLimit) {r : Headed} (p : Re
 
 pub ruleset judge-cases = (too-long, judge-refused, too-short, too-many, judge-fine)
 
--- ---- what a file that is listed is known to be
+-- ---- what is known of a file that is listed
 pub whole-is : {f : File} {len : ℕ} {r : Judged} {s : Listable} → Judges f len r → r ≡ judged.Listable s → Whole f len s
 unfolding judgedIn
 whole-is p e = record { is = sym (p .answer) ∙ ap judgedIn e }
@@ -147,7 +151,7 @@ count-reached : (f : File) (len : ℕ) {n : ℕ} {C : Type 0} → streamCount f 
 unfolding streamCount
 count-reached f len e k = came-by _ _ e λ h r _. k h r
 
--- a file that is not listed is refused by `listable`: past that the directory was reached
+-- a file that is not listed is refused by `listable`: once that passes, the directory was reached
 pub refused-whole : (f : File) (len : ℕ) {why : paper.Refusal} → judging f len ≡ refused why → listable f len ≡ refused why
 unfolding judging _>>=_
 refused-whole f len {why} e = go (listable f len) refl

@@ -1,5 +1,5 @@
-// Whether a file is listed, in document 01's order: 11 for its length, what the stream count refuses, 7 where the
-// directory does not hold all sizes, 11 for streams.
+// Whether a file is listed, in document 01's order: 11 for its length, the stream count's refusals, 7 if the directory
+// does not hold all sizes, 11 for streams.
 //
 // refusal.rt: why a file is not listed at all. This file: judging that, for the crates of the listing.
 mod refusal;
@@ -12,13 +12,14 @@ use paged::directory_word;
 pub use refusal::INPUT_LIMIT;
 pub use refusal::ListRefusal;
 pub use refusal::STREAM_LIMIT;
+ghost use mathlib.Core.Path.{_≡_};
 ghost use lib.ListN.{length};
 ghost use Rattle.outcome.specs.Outcome.{Unchanged};
 ghost use Rattle.parse_buffer.specs.Bytes.{byteAt};
 ghost use Rattle.header.specs.Promises.{headedIn};
-ghost use Rattle.listing_whole.specs.Promises.{judgedIn, Judges};
+ghost use Rattle.listing_whole.specs.Inner.{judgedIn, whyNot, Judges};
 
-// A directory that holds its count and all sizes.
+// What a file that is listed has: a directory that holds its count and all sizes.
 pub struct Listable {
     pub header: Header,
     pub count: u32,
@@ -27,6 +28,18 @@ pub struct Listable {
 pub enum Judged {
     Listable(Listable),
     Refused(ListRefusal),
+}
+
+impl Judged {
+    // Why the file is not listed. Callers ask this of a refusal only.
+    pub fn why(self) -> ListRefusal
+        ensures { λ r. ⌜ r ≡ whyNot self ⌝ }
+    {
+        match self {
+            Judged::Listable(_) => ListRefusal::OverLimit(STREAM_LIMIT),
+            Judged::Refused(why) => why,
+        }
+    }
 }
 
 pub fn judge(file: &[u8]) -> Judged

@@ -1,9 +1,9 @@
 // Why a file is not listed at all: the container's refusals, and document 01's 11.
 use paged::Refusal;
 ghost use mathlib.Core.Path.{_≡_};
-ghost use Rattle.listing_whole.specs.Promises.{listRefusalIn};
+ghost use Rattle.listing_whole.specs.Whole.{listRefusalIn};
 
-// The most bytes, and the most streams, of a file that is listed.
+// A file that is listed has at most so many bytes, and at most so many streams.
 pub const INPUT_LIMIT: usize = 65536;
 
 pub const STREAM_LIMIT: u32 = 4096;

@@ -1,6 +1,6 @@
 -- Laws of `sets` of `lib.Seq`: a store whose entries from a place on were set to these. `length-sets`, that it keeps its
 -- length, and `sets-eq`, that it is front, entries and rest, stand there already.
-use mathlib.Core.Path.{_≡_, refl, sym, _∙_, ap}
+use mathlib.Core.Path.{_≡_, refl, sym, _∙_}
 use mathlib.Core.List.{List, [], _∷_, _++_}
 use mathlib.Core.Logic.{⊎-elim}
 use Prim.Native.Nat.{ℕ, zero, suc, _+_, _≤_, _<_}

@@ -1,5 +1,5 @@
--- A file that is not listed is refused; else the lines are written.
--- Assumes nothing.
+-- `judge` answers as `listable` does, so a file that is not listed is refused with its refusal and the buffer stays;
+-- else `write_lines` writes the lines that `fitting` has. Assumes nothing.
 use borrow.Author.Needs.{needs}
 use Rattle.listing_whole.proofs.WholeLaws.{whole-is}
 use Rattle.listing.proofs.PlaceLaws.{line-within}
@@ -16,8 +16,8 @@ enum-known-judged c = search needs
 enum-told : tie.Need-enum-told
 enum-told c = search needs
 
-up-requires : tie.Need-up-requires
-up-requires c κs = search needs
+why-requires : tie.Need-why-requires
+why-requires c κs = search needs
 
 returns : tie.Need-returns
 returns c = search list-cases
@@ -44,7 +44,7 @@ list-spec =
     judge-requires
     enum-known-judged
     enum-told
-    up-requires
+    why-requires
     returns
     line-of-requires
     slice-aggregate-write-lines

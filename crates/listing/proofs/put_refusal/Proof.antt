@@ -1,4 +1,4 @@
--- The line is made in `text`, and put where it fits whole.
+-- The line is made whole in `text`. It is copied to `out` only if `out` is as long, so a line is never written in part.
 -- Assumes room for the longest line in `text`.
 use borrow.Author.Needs.{needs}
 use Rattle.store.proofs.PutLaws.{put-counts}

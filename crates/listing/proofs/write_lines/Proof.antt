@@ -1,5 +1,7 @@
--- The invariant: the lines from `from` up to this one stand in the buffer, and the count of pages is that of the streams
--- before this one. The measure is what is left of the lines. Assumes a file that is listed, and room for the longest line.
+-- The invariant: the lines from `from` up to this one stand in the buffer, and the count of pages is that of the
+-- streams before this one. A line that does not fit ends the loop, and no more lines fit then, since each further line
+-- only adds bytes. The measure is the lines that are left. Assumes a file that is listed, and room for the longest line
+-- in `text`.
 use mathlib.Core.Path.{_≡_}
 use Prim.Native.Nat.{_+_, _-_, _≤_}
 use borrow.Author.Needs.{needs}

@@ -1,5 +1,6 @@
--- The head has no pages; past a stream come its own.
--- Assumes a file that is listed, a line that it has, and the count of pages before it.
+-- The head has no pages, so the count stays. Past a stream it grows by the pages of the size that the directory has for
+-- it, as `Before` counts (`LineLaws`). Assumes a file that is listed, a line that it has, and the count of pages before
+-- it.
 use borrow.Author.Needs.{needs}
 use Rattle.listing_whole.proofs.WholeLaws.{whole-size}
 use Rattle.listing_line.proofs.LineLaws.{past-cases, past-fits}

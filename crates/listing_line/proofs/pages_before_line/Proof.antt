@@ -1,5 +1,5 @@
--- No stream is before the head.
--- Assumes a file that is listed, and a line that it has or the one after the last.
+-- Neither the head nor the first stream has a stream before it; line 1 + k has those before stream k, which
+-- `pages_before` counts. Assumes a file that is listed, and a line that it has or the one after the last.
 use borrow.Author.Needs.{needs}
 use Rattle.listing_whole.proofs.WholeLaws.{whole-size}
 use Rattle.listing_line.proofs.LineLaws.{past-cases}

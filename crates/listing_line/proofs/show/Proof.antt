@@ -1,5 +1,7 @@
--- One law of `LineLaws` for each way out: each says what mapping the stream afresh gives.
--- Assumes a file that is listed, a stream that it has, and the count of pages before it.
+-- Each return shows what mapping the stream afresh gives (`LineLaws`): a listed file has the stream's size, so only an
+-- absent size is refused with 5; `find_after` answers as steps 1 to 7 do, since the carried count is that of the
+-- streams before; and `count_slices` counts the slices of `mapped`. Assumes a file that is listed, a stream that it
+-- has, and the count of pages before it.
 use borrow.Author.Needs.{needs}
 use Rattle.listing_whole.proofs.WholeLaws.{whole-size}
 use Rattle.listing_line.proofs.LineLaws.{show-cases, own-size, show-skipped, show-size, show-entries}

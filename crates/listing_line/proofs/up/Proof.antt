@@ -1,4 +1,4 @@
--- A refusal is passed on; of a stream that was found, which never comes here, nothing is said.
+-- A refusal is shown with its number and value. `Up` says nothing of a stream that was found, which no caller passes.
 -- Assumes nothing.
 use borrow.Author.Needs.{needs}
 use Rattle.listing_line.proofs.LineLaws.{up-cases}

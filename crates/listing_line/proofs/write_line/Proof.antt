@@ -1,5 +1,5 @@
--- The head is line 0, and line 1 + k is stream k's.
--- Assumes a file that is listed, a line that it has, the count of pages before it, and room for the longest.
+-- Line 0 is the head and line 1 + k shows stream k, as `lineAt` says. Assumes a file that is listed, a line that it
+-- has, the count of pages before it, and room for the longest line.
 use borrow.Author.Needs.{needs}
 use Rattle.listing_line.proofs.LineLaws.{line-cases}
 use Rattle.listing_line.proofs.write_line.Statement.{statement}

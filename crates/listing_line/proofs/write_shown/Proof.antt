@@ -1,5 +1,5 @@
--- The stream's number, then what is shown of it.
--- Assumes room for the longest.
+-- What is shown begins where the stream's number ended, so together they are the line (`puts-more`), whichever of the
+-- three it is. Assumes room for the longest line.
 use borrow.Author.Needs.{needs}
 use Rattle.listing_line.proofs.LineLaws.{text-cases}
 use Rattle.listing_line.proofs.write_shown.Statement.{statement}

@@ -1,5 +1,6 @@
--- One law of `WholeLaws` for each way out. A directory that holds no count is shorter than 4 + 4*count for any count.
--- Assumes nothing.
+-- The code tests in the order of `listable`, so each return is what `judging` gives where the tests before it passed
+-- (`WholeLaws`). A directory too short for the count is shorter than 4 + 4 * count whatever the count, so one test
+-- gives both refusals 7. Assumes nothing.
 use borrow.Author.Needs.{needs}
 use Rattle.listing_whole.proofs.WholeLaws.{judge-cases, judge-size}
 use Rattle.listing_whole.proofs.judge.Statement.{statement}

@@ -1,5 +1,4 @@
--- A refusal is passed on; of the other case, which never comes here, nothing is said.
--- Assumes nothing.
+-- A refusal is passed on. `Unchanged` says nothing of an accepted header, which no caller passes. Assumes nothing.
 use borrow.Author.Needs.{needs}
 use Rattle.listing_whole.proofs.WholeLaws.{up-cases}
 use Rattle.listing_whole.proofs.up.Statement.{statement}

@@ -1,5 +1,5 @@
--- One law of `PlaceLaws` for each case.
--- Assumes nothing.
+-- The head is line 0 and stream k's line is 1 + k; a stream that is not there has the line after the last, by the
+-- smaller of k and the count. Assumes nothing.
 use borrow.Author.Needs.{needs}
 use Rattle.listing.proofs.PlaceLaws.{place-cases}
 use Rattle.listing.proofs.place.line_of.Statement.{statement}

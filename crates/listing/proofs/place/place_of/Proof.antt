@@ -1,5 +1,5 @@
--- One law of `PlaceLaws` for each way out.
--- Assumes nothing.
+-- Line 0 is the head, a line past the count is the end, and any other is that of the stream before its number. Assumes
+-- nothing.
 use borrow.Author.Needs.{needs}
 use Rattle.listing.proofs.PlaceLaws.{place-cases}
 use Rattle.listing.proofs.place.place_of.Statement.{statement}

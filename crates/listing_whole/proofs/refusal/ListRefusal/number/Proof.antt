@@ -1,5 +1,4 @@
--- The container's own number, or 11.
--- Assumes nothing.
+-- A refusal of the container keeps its number; the number of a limit is 11. Assumes nothing.
 use borrow.Author.Needs.{needs}
 use Rattle.listing_whole.proofs.refusal.ListRefusal.number.Statement.{statement}
 use Rattle.listing_whole.proofs.refusal.ListRefusal.number.Tie as tie

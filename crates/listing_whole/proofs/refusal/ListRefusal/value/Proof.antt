@@ -1,5 +1,4 @@
--- The container's own value, or the limit.
--- Assumes nothing.
+-- A refusal of the container keeps its value; the value of a limit is the limit. Assumes nothing.
 use borrow.Author.Needs.{needs}
 use Rattle.listing_whole.proofs.refusal.ListRefusal.value.Statement.{statement}
 use Rattle.listing_whole.proofs.refusal.ListRefusal.value.Tie as tie

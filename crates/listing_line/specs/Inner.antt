@@ -1,4 +1,4 @@
--- What the functions of a line promise their callers.
+-- What the functions of a line promise their callers, beside the bytes that they put.
 use mathlib.Core.Path.{_≡_}
 use Rattle.outcome.specs.Outcome.{refused}
 use Rattle.outcome.specs.Refusal as paper
@@ -9,7 +9,7 @@ use Rattle.listing_line.specs.Line.{Shown, present, absent, mapping-refu
 use Rattle.listing_line.specs.declared.Line.{Line}
 use Rattle.listing_line.specs.declared.Line.the-variants as line
 
--- what a line shows
+-- what an answer of the code shows on paper
 unfoldable pub shownIn : Line → Shown
 shownIn (line.Stream s) = present (s .size) (s .slices)
 shownIn line.Absent = absent
