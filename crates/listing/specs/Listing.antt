@@ -69,6 +69,7 @@ textOf f len l = linesFrom (lineAt f len (l .count)) (l .from) (l .many)
 abbrev pub partIn : File → ℕ → Lines → Part
 partIn f len l = record { bytes = length (textOf f len l); next = placeOf (l .count) (l .from + l .many) }
 
+-- the answer of `list`
 unfoldable pub partOf : File → ℕ → Outcome paper.Refusal Lines → Outcome paper.Refusal Part
 partOf f len o = do
   l ← o

@@ -31,7 +31,7 @@ module _ {B : Type 0} {xs t t′ : List B} {at r : ℕ} (p : Putting xs t at t�
   put-fits : at + length xs ≤ length t
   put-fits = omega (arith, p .place, p .within, put-length)
 
-  -- the bytes up to the place after are as many as it says
+  -- as many entries stand before the place after the run as it says
   pub put-counts : r ≡ length (take r t′)
   put-counts = sym (length-take-le r t′ (p .within))
 
