@@ -15,60 +15,49 @@ use Rattle.store.specs.Putting.{Putting}
 use Rattle.store.proofs.PutLaws.{puts-more}
 use Rattle.parse_buffer.specs.Bytes.{File}
 use Rattle.paged.specs.Refusal.{refusalIn}
-use Rattle.paged.specs.PageSize.{PageSize, need}
+use Rattle.paged.specs.PageSize.{need}
 use Rattle.paged.specs.Pages.{directoryWord}
 use Rattle.paged.proofs.SizeLaws.{need-least}
 use Rattle.paged.specs.declared.refusal.Refusal.{Refusal}
-use Rattle.directory.proofs.DirectoryLaws.{reached-size}
-use Rattle.slices.specs.Slices.{slicesOf, cut}
-use Rattle.slices.specs.Inner.{streamPage}
-use Rattle.stream.specs.Stream.{absent, sized, pagesOf, listed, found}
-use Rattle.stream.specs.Promises.{soughtIn, Before, Skipped, Finding}
+use Rattle.slices.specs.Inner.{slicesThrough}
+use Rattle.stream.specs.Stream.{absent, present, pagesOf, skippedTo, found}
+use Rattle.stream.specs.Inner.{soughtIn, whySought, Before, Skipped, Finding}
 use Rattle.stream.proofs.StreamLaws.{before-none, before-more}
-use Rattle.stream.proofs.FindLaws.{found-at, found-not-5}
+use Rattle.stream.proofs.FindLaws.{found-not-5}
 use Rattle.stream.specs.declared.Found.{Found}
 use Rattle.stream.specs.declared.Sought.{Sought}
 use Rattle.stream.specs.declared.Sought.the-variants as sought
-use Rattle.msf.specs.Msf.{placed}
-use Rattle.msf.specs.Promises.{mapped}
+use Rattle.extent.specs.Extent.{askedOf, asked, extentOf}
+use Rattle.extent.specs.Inner.{Held}
+use Rattle.extent.proofs.ExtentLaws.{measure-held}
+use Rattle.extent.specs.declared.limit.Limit.the-variants.{None}
+use Rattle.extent.specs.declared.Extent.{Extent}
+use Rattle.mapping.specs.Mapping.{mapped}
 use Rattle.listing_text.specs.Text.{headText, sizeText, absentText, refusalText}
 use Rattle.listing_whole.specs.Inner.{Whole}
 use Rattle.listing_whole.proofs.WholeLaws.{whole-at, whole-size}
 use Rattle.listing_whole.specs.declared.Listable.{Listable}
-use Rattle.listing_line.specs.Line.{Shown, mapping-refused, shownOf, shown, shownText, lineText, lineAt}
-use Rattle.listing_line.specs.Inner.{shownIn, Up}
+use Rattle.listing_line.specs.Line.{Shown, shownOf, shown, shownText, lineText, lineAt}
+use Rattle.listing_line.specs.Inner.{shownIn}
 use Rattle.listing_line.specs.declared.Shown as code
 use Rattle.listing_line.specs.declared.Line.{Line}
 use Rattle.listing_line.specs.declared.Line.the-variants as line
-
--- ---- a refusal handed up
-module _ {r : Sought} where
-  pub up-refused : {why : Refusal} → r ≡ sought.Refused why → Up r (line.Refused why)
-  unfolding soughtIn shownIn
-  up-refused {why} e =
-      record { is = λ w g. let same : refusalIn why ≡ w = cc in ap mapping-refused same }
-
-  pub up-found : {x : Found} (l : Line) → r ≡ sought.Found x → Up r l
-  unfolding soughtIn
-  up-found l e = record { is = λ w g. absurd (let z : _≡_ {A = ℕ} 0 1 = cc in omega arith) }
-
-pub ruleset up-cases = (up-refused, up-found)
 
 -- ---- `show`
 module _ {f : File} {len k : ℕ} {s : Listable} (w : Whole f len s) (l : k < s .count) where
   pub own-size : 1 + k < 2 ^ 32
   own-size = let few = whole-at f len w .few in omega arith
 
-  module _ {bytes : ℕ} (b : bytes ≡ directoryWord f (s .header .size) (1 + k)) where
+  module _ {bytes : ℕ} (b : bytes ≡ directoryWord f (s .header .pagesize) (1 + k)) where
     pub show-absent : bytes ≡ absent → shownIn line.Absent ≡ shown f len k
-    unfolding shownIn shownOf mapped placed found listed sized require _>>=_ _>>_
+    unfolding shownIn shownOf mapped asked found skippedTo present require _>>=_ _>>_
     show-absent a =
         let at = whole-at f len w in
         let m = at .sizes in
         rw (at .reached, le-leb 1 (s .header .directory / 4) (omega arith), ← at .count, lt-ltb k (s .count) l, le-leb (2 + k) (s .header .directory / 4) (omega arith), ← b, eq-eqb bytes absent a)
 
-    pub show-skipped : {before : ℕ} → (bytes ≡ absent → ⊥) → Before f (s .header .size) k before → Skipped f len k (record { header = s .header; count = s .count; size = bytes }) before
-    unfolding sized require _>>=_ _>>_
+    pub show-skipped : {before : ℕ} → (bytes ≡ absent → ⊥) → Before f (s .header .pagesize) k before → Skipped f len k (record { header = s .header; count = s .count; size = bytes }) before
+    unfolding present require _>>=_ _>>_
     show-skipped a before =
         let at = whole-at f len w in
         let m = at .sizes in
@@ -78,11 +67,11 @@ module _ {f : File} {len k : ℕ} {s : Listable} (w : Whole f len s) (l : k < s 
           pages = before;
         }
 
-    pub show-refused : {before : ℕ} {r : Sought} {why : Refusal} (y : Line) → (bytes ≡ absent → ⊥) → Before f (s .header .size) k before → Finding f len k r → r ≡ sought.Refused why → Up r y → shownIn y ≡ shown f len k
-    unfolding shownOf mapped placed soughtIn _>>=_
-    show-refused {why = why} y a before p e u =
+    pub show-refused : {before : ℕ} {r : Sought} {why v : Refusal} → (bytes ≡ absent → ⊥) → Before f (s .header .pagesize) k before → Finding f len k r → r ≡ sought.Refused why → v ≡ whySought r → shownIn (line.Refused v) ≡ shown f len k
+    unfolding shownIn shownOf mapped asked soughtIn _>>=_
+    show-refused {why = why} a before p e u =
         let g : found f len k ≡ refused (refusalIn why) = sym (p .answer) ∙ ap soughtIn e in
-        u .is (refusalIn why) (ap soughtIn e) ∙ rw (g, found-not-5 (show-skipped a before) (refusalIn why) g)
+        rw (g, found-not-5 (show-skipped a before) (refusalIn why) g, u, e)
 
 module _ {f : File} {len k : ℕ} {r : Sought} (p : Finding f len k r) where
   module _ {x : Found} (e : r ≡ sought.Found x) where
@@ -90,16 +79,12 @@ module _ {f : File} {len k : ℕ} {r : Sought} (p : Finding f len k r) where
     unfolding soughtIn
     found-is = sym (p .answer) ∙ ap soughtIn e
 
-    pub show-size : PageSize (x .header .size)
-    show-size = reached-size f len (found-at f len k found-is .reached)
+    pub show-held : x .header .directory < 2 ^ 32 → Held x
+    show-held h = measure-held p None e h
 
-    module _ {n : ℕ} (pages : n ≡ need (x .header .size) (x .size)) where
-      pub show-entries : x .header .directory < 2 ^ 32 → x .first + n ≤ 2 ^ 32
-      show-entries h = let i = found-at f len k found-is .inside in rw pages (omega arith)
-
-      pub show-stream : {c : ℕ} → c ≡ length (cut (x .size) (slicesOf (x .header .size) (streamPage f (x .header .size) (x .first)) n)) → shownIn (line.Stream (record { size = x .size; slices = c })) ≡ shown f len k
-      unfolding shownIn shownOf mapped placed _>>=_
-      show-stream c = rw (found-is, c, pages)
+    pub show-stream : {y : Extent} {c : ℕ} → y ≡ extentOf (askedOf None x) → c ≡ length (slicesThrough f y) → shownIn (line.Stream (record { size = x .size; slices = c })) ≡ shown f len k
+    unfolding shownIn shownOf mapped asked _>>=_
+    show-stream is c = rw (found-is, c, is)
 
 pub ruleset show-cases = (show-absent, show-refused, show-stream)
 
@@ -141,23 +126,23 @@ past-none {f} {p} i e = rw e (before-none f p)
 pub past-head : {f : File} {p b : ℕ} (i : ℕ) → i ≡ 0 → Before f p (i - 1) b → Before f p (i + 1 - 1) b
 past-head i e before = rw e (rw e at before)
 
-module _ {f : File} {len : ℕ} {s : Listable} (w : Whole f len s) (i : ℕ) (has : i ≤ s .count) {b n : ℕ} (before : Before f (s .header .size) (i - 1) b) (size : ℕ) (pages : n ≡ pagesOf (s .header .size) size) (fits : size < 2 ^ 32) where
+module _ {f : File} {len : ℕ} {s : Listable} (w : Whole f len s) (i : ℕ) (has : i ≤ s .count) {b n : ℕ} (before : Before f (s .header .pagesize) (i - 1) b) (size : ℕ) (pages : n ≡ pagesOf (s .header .pagesize) size) (fits : size < 2 ^ 32) where
   -- at most as many as bytes
-  few : pagesOf (s .header .size) size ≤ 2 ^ 32
+  few : pagesOf (s .header .pagesize) size ≤ 2 ^ 32
   unfolding pagesOf
   few =
       let p = whole-size w .least in
-      let all : size ≤ size * s .header .size = omega (arith, mul-le-mul-left size p) in
-      let least : need (s .header .size) size ≤ size = need-least (s .header .size) size (omega arith) size all in
+      let all : size ≤ size * s .header .pagesize = omega (arith, mul-le-mul-left size p) in
+      let least : need (s .header .pagesize) size ≤ size = need-least (s .header .pagesize) size (omega arith) size all in
       by-test (λ (n : ℕ). n ≤ 2 ^ 32) (eqb size absent) (λ _. omega arith) (λ _. omega arith)
 
   pub past-fits : Fits w64 (b + n)
   past-fits = let streams = whole-at f len w .few in record { fits = omega (arith, few, before .small) }
 
-  pub past-stream : (i ≡ 0 → ⊥) → size ≡ directoryWord f (s .header .size) i → Before f (s .header .size) (i + 1 - 1) (b + n)
+  pub past-stream : (i ≡ 0 → ⊥) → size ≡ directoryWord f (s .header .pagesize) i → Before f (s .header .pagesize) (i + 1 - 1) (b + n)
   past-stream z is =
       let same : 1 + (i - 1) ≡ i = omega (arith, z) in
       let next : i - 1 + 1 ≡ i + 1 - 1 = omega (arith, z) in
-      rw (← next) (before-more f (s .header .size) before (is ∙ rw same) pages (whole-size w) fits)
+      rw (← next) (before-more f (s .header .pagesize) before (is ∙ rw same) pages (whole-size w) fits)
 
 pub ruleset past-cases = (past-none, past-head, past-stream)

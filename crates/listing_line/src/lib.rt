@@ -1,6 +1,8 @@
 // A line of the listing, for crate `listing`. A stream's line shows the answer of mapping it whole, without a store.
 // The count of pages before it is carried from line to line: adding up the earlier sizes anew for each line would take
 // the square of their number.
+use extent::Limit;
+use extent::first_bytes;
 use listing_text::write_absent;
 use listing_text::write_head;
 use listing_text::write_refusal;
@@ -10,10 +12,9 @@ use listing_whole::Listable;
 use paged::Refusal;
 use paged::StreamNumber;
 use paged::directory_word;
-use paged::pages_needed_to_store;
 use slices::count_slices;
 use stream::ABSENT;
-use stream::Sized;
+use stream::Present;
 use stream::Sought;
 use stream::find_after;
 use stream::pages_before;
@@ -22,11 +23,11 @@ ghost use mathlib.Core.Path.{_≡_};
 ghost use Prim.Native.Nat.{_+_, _-_, _≤_, _<_};
 ghost use lib.ListN.{length};
 ghost use Rattle.parse_buffer.specs.Bytes.{byteAt};
-ghost use Rattle.stream.specs.Promises.{Before};
+ghost use Rattle.stream.specs.Inner.{Before};
 ghost use Rattle.store.specs.Putting.{Putting};
 ghost use Rattle.listing_whole.specs.Inner.{Whole};
 ghost use Rattle.listing_line.specs.Line.{lineText, lineAt, shown};
-ghost use Rattle.listing_line.specs.Inner.{shownIn, Up};
+ghost use Rattle.listing_line.specs.Inner.{shownIn};
 
 // A stream's size, and how many slices it has.
 struct Shown {
@@ -44,7 +45,7 @@ enum Line {
 pub fn write_line(file: &[u8], s: Listable, line: usize, before: usize, text: &mut [u8]) -> usize
     requires { ⌜ Whole (byteAt (now file)) (length (now file)) s ⌝ }
     requires { ⌜ line ≤ s .count ⌝ }
-    requires { ⌜ Before (byteAt (now file)) (s .header .size) (line - 1) before ⌝ }
+    requires { ⌜ Before (byteAt (now file)) (s .header .pagesize) (line - 1) before ⌝ }
     requires { ⌜ 80 ≤ length (now text) ⌝ }
     ensures { λ r. ⌜
         Putting (lineAt (byteAt (now (file .entry))) (length (now (file .entry))) (s .count) line)
@@ -75,66 +76,52 @@ fn write_shown(text: &mut [u8], k: u32, line: Line) -> usize
 fn show(file: &[u8], s: Listable, stream: StreamNumber, before: usize) -> Line
     requires { ⌜ Whole (byteAt (now file)) (length (now file)) s ⌝ }
     requires { ⌜ stream .0 < s .count ⌝ }
-    requires { ⌜ Before (byteAt (now file)) (s .header .size) (stream .0) before ⌝ }
+    requires { ⌜ Before (byteAt (now file)) (s .header .pagesize) (stream .0) before ⌝ }
     ensures { λ r. ⌜ shownIn r ≡ shown (byteAt (now (file .entry))) (length (now (file .entry))) (stream .0) ⌝ }
 {
     let h = s.header;
-    let size = h.size as usize;
-    let bytes = directory_word(file, size, 1 + stream.0 as usize);
+    let bytes = directory_word(file, h.pagesize as usize, 1 + stream.0 as usize);
     if bytes == ABSENT {
         return Line::Absent;
     }
-    let sized = Sized {
+    let present = Present {
         header: h,
         count: s.count,
         size: bytes,
     };
-    let found = find_after(file, stream, sized, before);
+    let found = find_after(file, stream, present, before);
     let Sought::Found(x) = found else {
-        return up(found);
+        return Line::Refused(found.why());
     };
-    let own = x.header;
-    let page = own.size as usize;
-    let length = x.size as usize;
-    let n = pages_needed_to_store(page, length);
-    let slices = count_slices(file, page, x.first, length, n);
+    let slices = count_slices(file, first_bytes(x, Limit::None));
     Line::Stream(Shown {
         size: x.size,
         slices,
     })
 }
 
-fn up(found: Sought) -> Line
-    ensures { λ r. ⌜ Up found r ⌝ }
-{
-    match found {
-        Sought::Refused(why) => Line::Refused(why),
-        Sought::Found(_) => Line::Absent,
-    }
-}
-
 // How many page numbers the streams before a line's stream have; for the head, 0.
 pub fn pages_before_line(file: &[u8], s: Listable, line: usize) -> usize
     requires { ⌜ Whole (byteAt (now file)) (length (now file)) s ⌝ }
     requires { ⌜ line ≤ 1 + s .count ⌝ }
-    ensures { λ r. ⌜ Before (byteAt (now (file .entry))) (s .header .size) (line - 1) r ⌝ }
+    ensures { λ r. ⌜ Before (byteAt (now (file .entry))) (s .header .pagesize) (line - 1) r ⌝ }
 {
     let h = s.header;
     if line == 0 {
         return 0;
     }
-    pages_before(file, h.size as usize, line - 1)
+    pages_before(file, h.pagesize as usize, line - 1)
 }
 
 // The same for the next line, given the count for this one.
 pub fn move_past(file: &[u8], s: Listable, line: usize, before: usize) -> usize
     requires { ⌜ Whole (byteAt (now file)) (length (now file)) s ⌝ }
     requires { ⌜ line ≤ s .count ⌝ }
-    requires { ⌜ Before (byteAt (now file)) (s .header .size) (line - 1) before ⌝ }
-    ensures { λ r. ⌜ Before (byteAt (now (file .entry))) (s .header .size) (line + 1 - 1) r ⌝ }
+    requires { ⌜ Before (byteAt (now file)) (s .header .pagesize) (line - 1) before ⌝ }
+    ensures { λ r. ⌜ Before (byteAt (now (file .entry))) (s .header .pagesize) (line + 1 - 1) r ⌝ }
 {
     let h = s.header;
-    let size = h.size as usize;
+    let size = h.pagesize as usize;
     if line == 0 {
         return before;
     }

@@ -10,11 +10,11 @@ use Rattle.paged.specs.Checks.{pageFits}
 use Rattle.header.specs.Header.{standsAt, sized, headed, located}
 use Rattle.directory.specs.Directory.{reached, streamCount}
 use Rattle.stream.specs.Stream as stream
-use Rattle.stream.specs.Stream.{pagesOf, pagesBefore, listed, found}
+use Rattle.stream.specs.Stream.{pagesOf, pagesBefore, skippedTo, found}
 use Rattle.slices.specs.Slices.{lengthen, slicesOf, cut}
-use Rattle.msf.specs.Msf.{placed}
-use Rattle.msf.specs.Promises.{mapped}
-use Rattle.container.specs.FileF.{fileF, F}
+use Rattle.extent.specs.Extent.{asked}
+use Rattle.mapping.specs.Mapping.{mapped}
+use Rattle.container_statements.specs.FileF.{fileF, F}
 use Rattle.listing_text.specs.Text.{spelled}
 use Rattle.listing_whole.specs.Whole.{listable}
 use Rattle.listing_line.specs.Line.{shownOf, shownText, lineAt}
@@ -22,5 +22,5 @@ use Rattle.listing.specs.Listing.{linesFrom, listing}
 use Rattle.listing_statements.specs.Cases.{Cases}
 
 pub cases : Cases
-unfolding F fileF _>>=_ _>>_ require each word sizeFits need location directoryPage directoryWord pageFits standsAt sized headed located reached streamCount pagesOf pagesBefore stream.sized listed found lengthen slicesOf cut placed mapped spelled shownText listable shownOf lineAt linesFrom listing Count.ones Count.onesIn
+unfolding F fileF _>>=_ _>>_ require each word sizeFits need location directoryPage directoryWord pageFits standsAt sized headed located reached streamCount pagesOf pagesBefore stream.sized skippedTo found lengthen slicesOf cut asked mapped spelled shownText listable shownOf lineAt linesFrom listing Count.ones Count.onesIn
 cases = record { listing-of-F = refl }

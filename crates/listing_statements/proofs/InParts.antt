@@ -17,8 +17,8 @@ use Rattle.parse_buffer.specs.Bytes.{File}
 use Rattle.listing_text.specs.Text.{refusalText}
 use Rattle.listing_whole.specs.Whole.{listable}
 use Rattle.listing_line.specs.Line.{lineAt}
-use Rattle.listing.specs.Listing.{linesFrom, listing, lineOf, placeOf, most}
-use Rattle.listing.specs.Promises.{listedIn, linesIn, fitting, partIn, partOf, Lists, Refuses}
+use Rattle.listing.specs.Listing.{linesFrom, listing, lineOf, placeOf, most, linesIn, fitting, partIn, partOf}
+use Rattle.listing.specs.Promises.{listedIn, Lists, Refuses}
 use Rattle.listing.specs.declared.place.Place.{Place}
 use Rattle.listing.specs.declared.place.Place.the-variants.{Head, End}
 use Rattle.listing.specs.declared.Part.{Part}

@@ -18,14 +18,14 @@ use Rattle.paged.specs.Pages.{directoryWord}
 use Rattle.header.specs.declared.Header.{Header}
 use Rattle.header.proofs.OpenLaws.{is-located}
 use Rattle.directory.specs.Directory.{reached, streamCount}
-use Rattle.directory.proofs.DirectoryLaws.{reached-located}
-use Rattle.stream.specs.Stream.{ownPage, ownPages, sized, listed, found}
+use Rattle.directory.proofs.DirectoryLaws.{reached-at}
+use Rattle.stream.specs.Stream.{ownPage, ownPages, present, skippedTo, found}
 use Rattle.stream.specs.declared.Found.{Found}
-use Rattle.stream.proofs.FindLaws.{found-at, sized-at}
+use Rattle.stream.proofs.FindLaws.{found-at, present-at}
 use Rattle.slices.specs.Slices.{continues, lengthen, slicesOf, cut}
 use Rattle.slices.specs.declared.SourceSlice.{SourceSlice}
-use Rattle.msf.specs.Msf.{placed}
-use Rattle.msf.specs.Promises.{mapped}
+use Rattle.extent.specs.Extent.{asked}
+use Rattle.mapping.specs.Mapping.{mapped}
 use Rattle.listing_text.specs.Text.{spelled, decimal, refusalText, sizeText}
 use Rattle.listing_whole.specs.Whole.{streamLimit, listable}
 use Rattle.listing_line.specs.Line.{Shown, shownOf, shown, shownText, lineAt}
@@ -92,8 +92,8 @@ module _ (f : File) (bytes : (i : ℕ) → f i < 256) where
 
   -- where the directory is reached: the refusals of finding a stream, and what is found
   module _ (len : ℕ) {h : Header} (d : reached f len ≡ ok h) (k : ℕ) (few : k < 2 ^ 32) where
-    sized-small : Each-refusal Small (sized f len k)
-    unfolding sized _>>=_
+    sized-small : Each-refusal Small (present f len k)
+    unfolding present _>>=_
     sized-small =
         rw d
         (refuses-then Small _ _ (refuses-require Small _ _ (omega arith, omega arith))
@@ -102,7 +102,7 @@ module _ (f : File) (bytes : (i : ℕ) → f i < 256) where
         (refuses-then Small _ _ (refuses-require Small _ _ (omega arith, omega arith)) (refuses-none Small _)))))
 
     found-small : Each-refusal Small (found f len k)
-    unfolding found listed
+    unfolding found skippedTo
     found-small =
         refuses-by Small _ _
         (refuses-by Small _ _ sized-small
@@ -113,29 +113,29 @@ module _ (f : File) (bytes : (i : ℕ) → f i < 256) where
         refuses-then Small _ _ (refuses-each Small _ _ (λ j. (omega arith, directory-small _ _)) _)
         (refuses-then Small _ _ (refuses-require Small _ _ (omega arith, omega arith)) (refuses-none Small _)))
 
-    size-small : {x : Found} → listed f len k ≡ ok x → x .size < 2 ^ 32
-    unfolding listed
+    size-small : {x : Found} → skippedTo f len k ≡ ok x → x .size < 2 ^ 32
+    unfolding skippedTo
     size-small {x} e =
         came-by _ _ e λ y s e₁.
         came _ _ e₁ λ _ _ e₂.
         came _ _ e₂ λ _ _ e₃.
-        rw (← ok-is e₃, sized-at f len k s .size) (directory-small _ _)
+        rw (← ok-is e₃, present-at f len k s .size) (directory-small _ _)
 
     pages-small : {x : Found} → found f len k ≡ ok x → ownPages x < 2 ^ 32
     pages-small {x} e =
         let at = found-at f len k e in
         let inside = at .inside in
-        let is = is-located f len (reached-located f len (at .reached)) .is in
+        let is = is-located f len (reached-at f len (at .reached)) .is in
         let size : x .header .directory ≡ word f 44 = ap (λ (g : Header). g .directory) is in
         omega (arith, word-small 44)
 
     shown-short : (o : Outcome paper.Refusal Found) → found f len k ≡ o → length (shownText (shown f len k)) ≤ 30
-    unfolding shownOf shownText mapped placed _>>=_
+    unfolding shownOf shownText mapped asked _>>=_
     shown-short (ok x) e =
-        let slices = cut-few (x .size) (slicesOf (x .header .size) (ownPage f x) (ownPages x)) in
-        let pages = slices-few (x .header .size) (ownPage f x) (ownPages x) in
+        let slices = cut-few (x .size) (slicesOf (x .header .pagesize) (ownPage f x) (ownPages x)) in
+        let pages = slices-few (x .header .pagesize) (ownPage f x) (ownPages x) in
         let most = pages-small e in
-        let text = size-short (x .size) (length (cut (x .size) (slicesOf (x .header .size) (ownPage f x) (ownPages x)))) (size-small (found-at f len k e .listed)) (omega arith) in
+        let text = size-short (x .size) (length (cut (x .size) (slicesOf (x .header .pagesize) (ownPage f x) (ownPages x)))) (size-small (found-at f len k e .listed)) (omega arith) in
         rw e (omega arith)
     shown-short (refused why) e =
         rw e
@@ -143,7 +143,7 @@ module _ (f : File) (bytes : (i : ℕ) → f i < 256) where
         (λ _. let text = size-short 0 0 (omega arith) (omega arith) in omega arith)
         (λ _. refusal-short why (found-small why e)))
 
-  -- a file that is listed has its directory, and few streams
+  -- a file that is skippedTo has its directory, and few streams
   pub line-short : (len n : ℕ) → listable f len ≡ ok n → (i : ℕ) → i ≤ n → length (lineAt f len n i) ≤ 80
   unfolding listable streamCount lineAt
   line-short len n e zero l =

@@ -7,7 +7,7 @@ use Rattle.outcome.specs.Refusal as paper
 use Rattle.outcome.proofs.OnlyLaws.{read-back, only₂}
 use Rattle.paged.specs.declared.refusal.Refusal.{Refusal}
 use Rattle.paged.specs.declared.refusal.Refusal.the-variants.{UnrecognizedFileFormat, UnimplementedFeature, InvalidPageSize, PageReferenceOutOfRange, StreamNotFound, FileEnds, ShortData, NoRoom}
-use Rattle.container.proofs.Told.{refusal-back}
+use Rattle.container_statements.proofs.Told.{refusal-back}
 use Rattle.listing_whole.specs.Whole.{listRefusalIn}
 use Rattle.listing_whole.specs.declared.refusal.ListRefusal.{ListRefusal}
 use Rattle.listing_whole.specs.declared.refusal.ListRefusal.the-variants.{Container, OverLimit}

@@ -2,7 +2,7 @@
 use mathlib.Core.Path.{_≡_}
 use mathlib.Core.List.{List, [], _∷_, _++_}
 use Prim.Native.Nat.{ℕ}
-use Rattle.container.specs.FileF.{F}
+use Rattle.container_statements.specs.FileF.{F}
 use Rattle.listing.specs.Listing.{listing}
 
 -- "streams 3"

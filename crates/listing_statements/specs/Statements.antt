@@ -8,8 +8,7 @@ use Rattle.outcome.specs.Refusal as paper
 use Rattle.outcome.specs.Only.{Only₂, Injective}
 use Rattle.parse_buffer.specs.Bytes.{File}
 use Rattle.listing_text.specs.Text.{decimal, refusalText}
-use Rattle.listing_whole.specs.Whole.{listable}
-use Rattle.listing_whole.specs.Promises.{listRefusalIn}
+use Rattle.listing_whole.specs.Whole.{listable, listRefusalIn}
 use Rattle.listing_line.specs.Line.{lineAt}
 use Rattle.listing.specs.Listing.{linesFrom, listing, lineOf}
 use Rattle.listing.specs.Promises.{listedIn, Lists, Refuses}

@@ -5,22 +5,22 @@ use Prim.Native.Nat.{ℕ, _+_, _*_, _/_, _≤_, _<_}
 use native.Mathlib.Omega.{arith}
 use borrow.Author.Tests.{le-leb, lt-leb, leb-true}
 use Rattle.outcome.specs.Refusal as paper
-use Rattle.outcome.specs.Outcome.{Outcome, ok, refused, _>>=_, _>>_, require, Unchanged}
-use Rattle.outcome.proofs.OutcomeLaws.{below-or, came, came-by, ok-is, passed, unchanged, unreached}
+use Rattle.outcome.specs.Outcome.{Outcome, ok, refused, _>>=_, _>>_, require}
+use Rattle.outcome.proofs.OutcomeLaws.{below-or, came, came-by, ok-is, passed, ok-refused, refused-is}
 use Rattle.parse_buffer.specs.Bytes.{File}
 use Rattle.paged.specs.PageSize.{PageSize}
 use Rattle.paged.specs.Pages.{directoryWord}
 use Rattle.paged.specs.declared.refusal.Refusal.{Refusal}
 use Rattle.paged.specs.declared.refusal.Refusal.the-variants.{ShortData}
 use Rattle.header.specs.Header.{headerOf}
-use Rattle.header.specs.Promises.{headedIn}
+use Rattle.header.specs.Inner.{headedIn, whyHeaded}
 use Rattle.header.proofs.OpenLaws.{is-located}
 use Rattle.header.specs.declared.Header.{Header}
 use Rattle.header.specs.declared.Headed.{Headed}
 use Rattle.header.specs.declared.Headed.the-variants as headed
 use Rattle.directory.specs.Directory.{reached, streamCount}
-use Rattle.directory.specs.Promises.{Reaching}
-use Rattle.directory.proofs.DirectoryLaws.{reached-located, reached-size}
+use Rattle.directory.specs.Inner.{Reaching}
+use Rattle.directory.proofs.DirectoryLaws.{reached-at}
 use Rattle.listing_whole.specs.Whole.{inputLimit, streamLimit, listable, judging}
 use Rattle.listing_whole.specs.Inner.{judgedIn, whyNot, Judges, Whole}
 use Rattle.listing_whole.specs.declared.refusal.ListRefusal.the-variants.{Container, OverLimit}
@@ -28,25 +28,13 @@ use Rattle.listing_whole.specs.declared.Listable.{Listable}
 use Rattle.listing_whole.specs.declared.Judged.{Judged}
 use Rattle.listing_whole.specs.declared.Judged.the-variants as judged
 
--- ---- handing a refusal up
-module _ {r : Headed} where
-  pub headed-refused : {why : Refusal} → r ≡ headed.Refused why → Unchanged (headedIn r) (judgedIn (judged.Refused (Container why)))
-  unfolding headedIn judgedIn
-  headed-refused e = unchanged (ap headedIn e) refl
-
-  pub headed-container : {h : Header} (x : Judged) → r ≡ headed.Container h → Unchanged (headedIn r) (judgedIn x)
-  unfolding headedIn
-  headed-container x e = unreached (ap headedIn e)
-
-pub ruleset up-cases = (headed-refused, headed-container)
-
 -- ---- `Judged::why`
 pub why-listable : {r : Judged} {s : Listable} → r ≡ judged.Listable s → OverLimit streamLimit ≡ whyNot r
 why-listable e = rw e
 
 -- the directory_size that was read is the header's own
 size-read : (f : File) (len : ℕ) {h : Header} → reached f len ≡ ok h → headerOf f .directory ≡ h .directory
-size-read f len e = sym (ap (λ (h : Header). h .directory) (is-located f len (reached-located f len e) .is))
+size-read f len e = sym (ap (λ (h : Header). h .directory) (is-located f len (reached-at f len e .located) .is))
 
 -- ---- `judge`
 module _ (f : File) (len : ℕ) where
@@ -55,21 +43,21 @@ module _ (f : File) (len : ℕ) where
   too-long l = record { answer = rw (lt-leb len inputLimit l) }
 
 module _ {f : File} {len : ℕ} (l₀ : len ≤ inputLimit) {r : Headed} (p : Reaching f len r) where
-  pub judge-refused : {why : Refusal} (x : Judged) → r ≡ headed.Refused why → Unchanged (headedIn r) (judgedIn x) → Judges f len x
-  unfolding judging listable streamCount headedIn require _>>=_ _>>_
-  judge-refused x e u =
+  pub judge-refused : {why v : Refusal} → r ≡ headed.Refused why → v ≡ whyHeaded r → Judges f len (judged.Refused (Container v))
+  unfolding judging listable streamCount headedIn judgedIn require _>>=_ _>>_
+  judge-refused e u =
       let k : reached f len ≡ refused _ = sym (p .answer) ∙ ap headedIn e in
-      record { answer = u .is _ (ap headedIn e) ∙ rw (le-leb len inputLimit l₀, k) }
+      record { answer = rw (le-leb len inputLimit l₀, k, u, e) }
 
   module _ {h : Header} (e : r ≡ headed.Container h) where
     reached-is : reached f len ≡ ok h
     unfolding headedIn
     reached-is = sym (p .answer) ∙ ap headedIn e
 
-    pub judge-size : PageSize (h .size)
-    judge-size = reached-size f len reached-is
+    pub judge-size : PageSize (h .pagesize)
+    judge-size = reached-at f len reached-is .size
 
-    module _ {c : ℕ} (count : c ≡ directoryWord f (h .size) 0) where
+    module _ {c : ℕ} (count : c ≡ directoryWord f (h .pagesize) 0) where
       no-count : h .directory / 4 < 1 → Judges f len (judged.Refused (Container ShortData))
       unfolding judging listable streamCount judgedIn require _>>=_ _>>_
       no-count l = record { answer = rw (le-leb len inputLimit l₀, reached-is, lt-leb 1 (h .directory / 4) l) }
@@ -112,7 +100,7 @@ whole-is p e = record { is = sym (p .answer) ∙ ap judgedIn e }
 pub record Whole-at (f : File) (len : ℕ) (s : Listable) : Type 0 where
   pub listable : listable f len ≡ ok (s .count)
   pub reached : reached f len ≡ ok (s .header)
-  pub count : s .count ≡ directoryWord f (s .header .size) 0
+  pub count : s .count ≡ directoryWord f (s .header .pagesize) 0
   pub sizes : 4 + 4 * s .count ≤ s .header .directory
   pub few : s .count ≤ streamLimit
 
@@ -125,12 +113,12 @@ listable-at f len e =
     came _ _ e₃ λ _ few e₄.
     rw (← ok-is e₄) (c, leb-true _ _ (passed _ _ sizes), leb-true _ _ (passed _ _ few))
 
-count-at : (f : File) (len : ℕ) {n : ℕ} {h : Header} → streamCount f len ≡ ok n → reached f len ≡ ok h → n ≡ directoryWord f (h .size) 0
+count-at : (f : File) (len : ℕ) {n : ℕ} {h : Header} → streamCount f len ≡ ok n → reached f len ≡ ok h → n ≡ directoryWord f (h .pagesize) 0
 unfolding streamCount
 count-at f len {n} {h} e r =
     came-by _ _ e λ g d e₁.
     came _ _ e₁ λ _ _ e₂.
-    sym (ok-is e₂) ∙ ap (λ (g : Header). directoryWord f (g .size) 0) (ok-is (sym d ∙ r))
+    sym (ok-is e₂) ∙ ap (λ (g : Header). directoryWord f (g .pagesize) 0) (ok-is (sym d ∙ r))
 
 pub whole-at : (f : File) (len : ℕ) {s : Listable} → Whole f len s → Whole-at f len s
 unfolding judging
@@ -157,11 +145,10 @@ unfolding judging _>>=_
 refused-whole f len {why} e = go (listable f len) refl
   where
     go : (o : Outcome paper.Refusal ℕ) → listable f len ≡ o → listable f len ≡ refused why
-    go (refused w) l = let g : _≡_ {A = Outcome paper.Refusal Listable} (refused w) (refused why) = rw l at e in let same : w ≡ why = cc in l ∙ ap refused same
+    go (refused w) l = l ∙ ap refused (refused-is (rw l at e))
     go (ok n) l =
         count-reached f len (listable-at f len l .0) λ h r.
-        let g : _≡_ {A = Outcome paper.Refusal Listable} (ok (record { header = h; count = n })) (refused why) = rw (l, r) at e in
-        absurd (let z : _≡_ {A = ℕ} 0 1 = cc in omega arith)
+        absurd (ok-refused (rw (l, r) at e))
 
-pub whole-size : {f : File} {len : ℕ} {s : Listable} → Whole f len s → PageSize (s .header .size)
-whole-size {f} {len} w = reached-size f len (whole-at f len w .reached)
+pub whole-size : {f : File} {len : ℕ} {s : Listable} → Whole f len s → PageSize (s .header .pagesize)
+whole-size {f} {len} w = reached-at f len (whole-at f len w .reached) .size

@@ -14,10 +14,8 @@ pub use refusal::ListRefusal;
 pub use refusal::STREAM_LIMIT;
 ghost use mathlib.Core.Path.{_≡_};
 ghost use lib.ListN.{length};
-ghost use Rattle.outcome.specs.Outcome.{Unchanged};
 ghost use Rattle.parse_buffer.specs.Bytes.{byteAt};
-ghost use Rattle.header.specs.Promises.{headedIn};
-ghost use Rattle.listing_whole.specs.Inner.{judgedIn, whyNot, Judges};
+ghost use Rattle.listing_whole.specs.Inner.{whyNot, Judges};
 
 // What a file that is listed has: a directory that holds its count and all sizes.
 pub struct Listable {
@@ -50,9 +48,9 @@ pub fn judge(file: &[u8]) -> Judged
     }
     let reached = reach(file);
     let Headed::Container(h) = reached else {
-        return up(reached);
+        return Judged::Refused(ListRefusal::Container(reached.why()));
     };
-    let count = directory_word(file, h.size as usize, 0);
+    let count = directory_word(file, h.pagesize as usize, 0);
     if (h.directory as u64) < 4 + 4 * count as u64 {
         return Judged::Refused(ListRefusal::Container(Refusal::ShortData));
     }
@@ -60,13 +58,4 @@ pub fn judge(file: &[u8]) -> Judged
         return Judged::Refused(ListRefusal::OverLimit(STREAM_LIMIT));
     }
     Judged::Listable(Listable { header: h, count })
-}
-
-fn up(r: Headed) -> Judged
-    ensures { λ x. ⌜ Unchanged (headedIn r) (judgedIn x) ⌝ }
-{
-    match r {
-        Headed::Refused(why) => Judged::Refused(ListRefusal::Container(why)),
-        Headed::Container(_) => Judged::Refused(ListRefusal::Container(Refusal::ShortData)),
-    }
 }

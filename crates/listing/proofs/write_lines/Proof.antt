@@ -8,7 +8,7 @@ use borrow.Author.Needs.{needs}
 use lib.ListN.{length}
 use Rattle.store.proofs.PutLaws.{put-counts}
 use Rattle.parse_buffer.specs.Bytes.{byteAt}
-use Rattle.stream.specs.Promises.{Before}
+use Rattle.stream.specs.Inner.{Before}
 use Rattle.listing_line.specs.Line.{lineAt}
 use Rattle.listing.proofs.ListLaws.{So-far, write-cases, so-more, so-room, so-inside, same-out}
 use Rattle.listing.proofs.write_lines.Statement.{statement}
@@ -16,7 +16,7 @@ use Rattle.listing.proofs.write_lines.Tie as tie
 
 abbrev Inv-loop : tie.InvT-loop
 Inv-loop file s from text₀ out₀ last line₀ at₀ before₀ text out line at before =
-    (line ≤ 1 + s .count) × (length text ≡ length text₀) × So-far (lineAt (byteAt file) (length file) (s .count)) from line at out₀ out × Before (byteAt file) (s .header .size) (line - 1) before
+    (line ≤ 1 + s .count) × (length text ≡ length text₀) × So-far (lineAt (byteAt file) (length file) (s .count)) from line at out₀ out × Before (byteAt file) (s .header .pagesize) (line - 1) before
 
 abbrev μ-loop : tie.MeasureT-loop
 μ-loop file s from text₀ out₀ last line₀ at₀ before₀ text out line at before = 1 + s .count - line

@@ -1,24 +1,22 @@
--- Each return shows what mapping the stream afresh gives (`LineLaws`): a listed file has the stream's size, so only an
--- absent size is refused with 5; `find_after` answers as steps 1 to 7 do, since the carried count is that of the
--- streams before; and `count_slices` counts the slices of `mapped`. Assumes a file that is listed, a stream that it
--- has, and the count of pages before it.
+-- The count and all sizes are there, so finding goes on from the carried count as it would afresh (`show-skipped`), and
+-- no refusal after this is 5. Assumes a file that is listed, a stream below the count, and the carried count.
 use borrow.Author.Needs.{needs}
+use Rattle.listing_line.proofs.LineLaws.{show-cases, show-skipped, show-held, own-size}
 use Rattle.listing_whole.proofs.WholeLaws.{whole-size}
-use Rattle.listing_line.proofs.LineLaws.{show-cases, own-size, show-skipped, show-size, show-entries}
 use Rattle.listing_line.proofs.show.Statement.{statement}
 use Rattle.listing_line.proofs.show.Tie as tie
 
-cast-size : tie.Need-cast-size
-cast-size c = search needs
-
 cast-directory-word : tie.Need-cast-directory-word
 cast-directory-word c = search needs
+
+cast-directory-word-2 : tie.Need-cast-directory-word-2
+cast-directory-word-2 c = search needs
 
 add-directory-word : tie.Need-add-directory-word
 add-directory-word c = search needs
 
 directory-word-requires : tie.Need-directory-word-requires
-directory-word-requires c κs = (search whole-size, search own-size)
+directory-word-requires c κs = (search whole-size, search (own-size, needs))
 
 returns : tie.Need-returns
 returns c = search show-cases
@@ -32,23 +30,17 @@ enum-known-found c = search needs
 enum-told : tie.Need-enum-told
 enum-told c = search needs
 
-up-requires : tie.Need-up-requires
-up-requires c κs = search needs
+why-requires : tie.Need-why-requires
+why-requires c κs = search needs
 
 returns-2 : tie.Need-returns-2
 returns-2 c = search show-cases
 
-cast-page : tie.Need-cast-page
-cast-page c = search needs
-
-cast-length : tie.Need-cast-length
-cast-length c = search needs
-
-pages-needed-to-store-requires : tie.Need-pages-needed-to-store-requires
-pages-needed-to-store-requires c κs = (search show-size, search needs)
+first-bytes-requires : tie.Need-first-bytes-requires
+first-bytes-requires c κs = search (show-held, needs)
 
 count-slices-requires : tie.Need-count-slices-requires
-count-slices-requires c κs = (search show-size, (search (show-entries, needs), search needs))
+count-slices-requires c κs = search needs
 
 returns-3 : tie.Need-returns-3
 returns-3 c = search show-cases
@@ -57,18 +49,16 @@ pub show-spec : {M : Type 1} → statement M
 show-spec =
     tie.close
     (tie.spec
-    cast-size
     cast-directory-word
+    cast-directory-word-2
     add-directory-word
     directory-word-requires
     returns
     find-after-requires
     enum-known-found
     enum-told
-    up-requires
+    why-requires
     returns-2
-    cast-page
-    cast-length
-    pages-needed-to-store-requires
+    first-bytes-requires
     count-slices-requires
     returns-3)

@@ -21,8 +21,8 @@ enum-known-reached c = search needs
 enum-told : tie.Need-enum-told
 enum-told c = search needs
 
-up-requires : tie.Need-up-requires
-up-requires c κs = search needs
+why-requires : tie.Need-why-requires
+why-requires c κs = search needs
 
 returns-2 : tie.Need-returns-2
 returns-2 c = search judge-cases
@@ -63,7 +63,7 @@ judge-spec =
     reach-requires
     enum-known-reached
     enum-told
-    up-requires
+    why-requires
     returns-2
     cast-directory-word
     directory-word-requires
