@@ -16,7 +16,7 @@ use Rattle.slices.specs.declared.SourceSlice.{SourceSlice}
 use Rattle.extent.specs.Extent.{Asked}
 use Rattle.mapping.specs.Mapping.{slicesIn, mapping, mappedIn, mapped}
 use Rattle.msf.specs.Promises.{Maps}
-use Rattle.msf.proofs.CopyLaws.{sets-first}
+use Rattle.store.proofs.SetsLaws.{sets-first}
 use Rattle.extent.specs.declared.limit.Limit.{Limit}
 use Rattle.mapping.specs.declared.Mapped.{Mapped}
 use Rattle.mapping.specs.declared.Mapping.{Mapping}

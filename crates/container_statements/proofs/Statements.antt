@@ -34,7 +34,8 @@ use Rattle.extent.specs.Extent.{lengthOf, Asked, asked, readable}
 use Rattle.mapping.specs.Mapping.{slicesIn, mapping, mappedIn}
 use Rattle.msf.specs.Extraction.{bytesIn, extraction, lengthIn}
 use Rattle.msf.specs.Promises.{extractedIn, Extracts}
-use Rattle.msf.proofs.CopyLaws.{through-length, through-at, sets-first, sets-beyond}
+use Rattle.msf.proofs.CopyLaws.{through-length, through-at}
+use Rattle.store.proofs.SetsLaws.{sets-first, sets-beyond}
 use Rattle.extent.proofs.ExtentLaws.{length-most, Asked-at, asked-at, readable-at}
 use Rattle.mapping.proofs.MappingLaws.{mapping-at}
 use Rattle.extent.specs.declared.limit.Limit.{Limit}

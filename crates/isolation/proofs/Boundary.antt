@@ -6,8 +6,8 @@ use Prim.Native.Nat.{ℕ, min}
 use lib.ListN.{length}
 use Rattle.parse_buffer.specs.Bytes.{File}
 use Rattle.slices.specs.declared.SourceSlice.{SourceSlice}
-use Rattle.msf.specs.Msf.{bytesIn}
-use Rattle.msf.specs.declared.limit.Limit.{Limit}
+use Rattle.msf.specs.Extraction.{bytesIn}
+use Rattle.extent.specs.declared.limit.Limit.{Limit}
 use Rattle.trovespan.specs.Promises.{Opens, Counts, Maps, Extracts}
 use Rattle.trovespan.proofs.Statements.{single-valued}
 use Rattle.isolation.specs.Listed.{ListedOpen, ListedCount, Listed, ListedBytes, Agree}

@@ -1,6 +1,6 @@
 -- The (P) cases of both halves.
 use Rattle.annotations_statements.proofs.Cases as annotations
-use Rattle.container.proofs.Cases as container
+use Rattle.container_statements.proofs.Cases as container
 use Rattle.isolation.specs.Cases.{Cases}
 
 pub cases : Cases

@@ -9,14 +9,14 @@ use Rattle.outcome.proofs.OutcomeLaws.{ok-is}
 use Rattle.parse_buffer.specs.Bytes.{File}
 use Rattle.paged.specs.Pages.{firstEntry, location, directoryPage}
 use Rattle.paged.proofs.SizeLaws.{need-index}
-use Rattle.header.specs.Header.{bigMagic, standsAt, entries, directoryPages, locationPages, headed, located}
+use Rattle.header.specs.Header.{bigMagic, standsAt, entriesInBlock, directoryPages, locationPages, headed, located}
 use Rattle.header.specs.declared.Header.{Header}
 use Rattle.header.proofs.HeaderLaws.{headed-size}
 use Rattle.header.proofs.OpenLaws.{is-located}
 use Rattle.directory.specs.Directory.{reached}
 use Rattle.stream.specs.Stream.{ownPage, ownPages}
 use Rattle.stream.proofs.FindLaws.{found-at}
-use Rattle.msf.specs.declared.limit.Limit.{Limit}
+use Rattle.extent.specs.declared.limit.Limit.{Limit}
 use Rattle.isolation.specs.Listed.{ListedOpen, ListedCount, Listed, ListedBytes, Agree}
 use Rattle.isolation.specs.NamedExactly.{InPages}
 use Rattle.isolation.specs.Corollaries.{Alike, DifferOnlyAt, OffTheLists, Elsewhere, Corollaries}
@@ -45,37 +45,37 @@ off-list f g len k limit Place off differ = alike f g len k limit (λ i l. diffe
 -- ---- where a byte stands that is listed for mapping
 data Where (f : File) (len i : ℕ) : Type 0 where
   opening : ListedOpen f len i → Where f len i
-  list : {h : Header} → located f len ≡ ok h → InPages (h .size) (location f) (locationPages h) i → Where f len i
-  directory : {h : Header} → reached f len ≡ ok h → InPages (h .size) (directoryPage f (h .size)) (directoryPages h) i → Where f len i
+  list : {h : Header} → located f len ≡ ok h → InPages (h .pagesize) (location f) (locationPages h) i → Where f len i
+  directory : {h : Header} → reached f len ≡ ok h → InPages (h .pagesize) (directoryPage f (h .pagesize)) (directoryPages h) i → Where f len i
 
 standing : (f : File) (len i : ℕ) → Stage f len i → Where f len i
 standing f len i (Stage.opening l) = Where.opening l
 standing f len i (Stage.entry {j} {h} o _ l w) =
     let s = is-located f len o .size in
     let least = s .least in
-    let n = need-index (h .size) (4 * directoryPages h) (omega arith) (4 * j) (omega arith) in
-    Where.list o (word-in-pages (h .size) (location f) (locationPages h) s j n i w)
+    let n = need-index (h .pagesize) (4 * directoryPages h) (omega arith) (4 * j) (omega arith) in
+    Where.list o (word-in-pages (h .pagesize) (location f) (locationPages h) s j n i w)
 standing f len i (Stage.word {w = j} {h} d l w) =
     let s = reached-at f len d .size in
     let least = s .least in
-    let n = need-index (h .size) (h .directory) (omega arith) (4 * j) (omega arith) in
-    Where.directory d (word-in-pages (h .size) (directoryPage f (h .size)) (directoryPages h) s j n i w)
+    let n = need-index (h .pagesize) (h .directory) (omega arith) (4 * j) (omega arith) in
+    Where.directory d (word-in-pages (h .pagesize) (directoryPage f (h .pagesize)) (directoryPages h) s j n i w)
 
 -- ---- page 0: no page that passed its check is page 0. (No header need pass: then opening alone is listed.)
 abbrev InPageZero : File → ℕ → ℕ → Type 0
-InPageZero f len i = (h : Header) → headed f len ≡ ok h → i < h .size
+InPageZero f len i = (h : Header) → headed f len ≡ ok h → i < h .pagesize
 
 module _ (f : File) (len k i : ℕ) (zero : InPageZero f len i) where
-  located-not-zero : {h : Header} → located f len ≡ ok h → h .size ≤ i → ⊥
+  located-not-zero : {h : Header} → located f len ≡ ok h → h .pagesize ≤ i → ⊥
   located-not-zero o past = omega (arith, zero _ (is-located f len o .headed))
 
   only-opening : Where f len i → ListedOpen f len i
   only-opening (Where.opening l) = l
   only-opening (Where.list {h} o x) =
-      absurd (located-not-zero o (past-page-zero (h .used) (h .size) (location f) (locationPages h) (located-checked f len o) i x))
+      absurd (located-not-zero o (past-page-zero (h .used) (h .pagesize) (location f) (locationPages h) (located-checked f len o) i x))
   only-opening (Where.directory {h} d x) =
       let at = reached-at f len d in
-      absurd (located-not-zero (at .located) (past-page-zero (h .used) (h .size) (directoryPage f (h .size)) (directoryPages h) (at .checked) i x))
+      absurd (located-not-zero (at .located) (past-page-zero (h .used) (h .pagesize) (directoryPage f (h .pagesize)) (directoryPages h) (at .checked) i x))
 
   in-page-zero : (limit : Limit) → ListedBytes f len k limit i → ListedOpen f len i
   in-page-zero limit (ListedBytes.mapping l) = only-opening (standing f len i (stage f len k i l))
@@ -83,7 +83,7 @@ module _ (f : File) (len k i : ℕ) (zero : InPageZero f len i) where
       let p = readable-placed f len k limit r in
       let at = found-at f len k (placed-found f len k limit p) in
       absurd (located-not-zero (reached-at f len (at .reached) .located)
-      (past-page-zero (x .found .header .used) (x .found .header .size) (ownPage f (x .found)) (ownPages (x .found)) (at .checked) i (named-in-pages f len k limit p i n)))
+      (past-page-zero (x .found .header .used) (x .found .header .pagesize) (ownPage f (x .found)) (ownPages (x .found)) (at .checked) i (named-in-pages f len k limit p i n)))
 
 -- the smallest page has 256 bytes
 pub first-256 : (f : File) (len k : ℕ) (limit : Limit) (i : ℕ) → i < 256 → ListedBytes f len k limit i → ListedOpen f len i
@@ -91,7 +91,7 @@ first-256 f len k limit i m = in-page-zero f len k i (λ h q. let s = headed-siz
 
 -- ---- a byte elsewhere
 module _ (f : File) (len k : ℕ) {h : Header} (p : headed f len ≡ ok h) (i : ℕ) where
-  past-opening : firstEntry + 4 * min (locationPages h) entries ≤ i → ListedOpen f len i → ⊥
+  past-opening : firstEntry + 4 * min (locationPages h) entriesInBlock ≤ i → ListedOpen f len i → ⊥
   past-opening l (ListedOpen.start m) = omega arith
   past-opening l (ListedOpen.fields _ m) = omega arith
   past-opening l (ListedOpen.small _ _ m) = omega arith

@@ -9,9 +9,9 @@ use Rattle.header.specs.Header.{directoryPages}
 use Rattle.header.proofs.HeaderLaws.{headed-long}
 use Rattle.header.proofs.OpenLaws.{is-located}
 use Rattle.stream.specs.Stream.{ownPage}
-use Rattle.msf.specs.declared.limit.Limit.{Limit}
-use Rattle.container.proofs.FileLaws.{lies-byte, lies-word}
-use Rattle.container.proofs.Statements.{large, readable-at}
+use Rattle.extent.specs.declared.limit.Limit.{Limit}
+use Rattle.container_statements.proofs.FileLaws.{lies-byte, lies-word}
+use Rattle.container_statements.proofs.Statements.{large, readable-at}
 use Rattle.isolation.specs.Listed.{ListedOpen, ListedBytes}
 use Rattle.isolation.specs.InFile.{InFile}
 use Rattle.isolation.proofs.PassedLaws.{reached-at}
@@ -30,12 +30,12 @@ module _ (f : File) (len i : ℕ) where
   staged-in (Stage.entry {j} {h} o lies l w) =
       let s = is-located f len o .size in
       let least = s .least in
-      let in-file = lies-word len (h .size) (location f) (4 * directoryPages h) (omega arith) lies s j (omega arith) in
+      let in-file = lies-word len (h .pagesize) (location f) (4 * directoryPages h) (omega arith) lies s j (omega arith) in
       inl (omega (arith, w .1))
   staged-in (Stage.word {w = j} {h} d l w) =
       let at = reached-at f len d in
       let least = at .size .least in
-      let in-file = lies-word len (h .size) (directoryPage f (h .size)) (h .directory) (omega arith) (at .directory) (at .size) j (omega arith) in
+      let in-file = lies-word len (h .pagesize) (directoryPage f (h .pagesize)) (h .directory) (omega arith) (at .directory) (at .size) j (omega arith) in
       inl (omega (arith, w .1))
 
 pub in-file : (f : File) (len k : ℕ) (limit : Limit) → InFile f len k limit
@@ -46,5 +46,5 @@ in-file f len k limit = record { is = is }
     is i (ListedBytes.bytes {x} r n) =
         let read = readable-at f len k limit r in
         let b = stream-byte f len k limit (read .placed) i n in
-        let lies = lies-byte len (x .found .header .size) (ownPage f (x .found)) (x .size) (large f len k limit (read .placed)) (read .lies) (b .index) (b .below) in
+        let lies = lies-byte len (x .found .header .pagesize) (ownPage f (x .found)) (x .size) (large f len k limit (read .placed)) (read .lies) (b .index) (b .below) in
         inl (omega (arith, b .at))

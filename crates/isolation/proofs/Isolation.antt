@@ -6,18 +6,20 @@ use Prim.Native.Nat.{ℕ, min}
 use lib.ListN.{length}
 use Rattle.outcome.specs.Store.{written}
 use Rattle.parse_buffer.specs.Bytes.{File}
-use Rattle.header.specs.Promises.{opening, Opening}
+use Rattle.header.specs.Header.{opening}
+use Rattle.header.specs.Promises.{Opening}
 use Rattle.header.specs.declared.Opened.{Opened}
 use Rattle.directory.specs.Promises.{Counting}
 use Rattle.directory.specs.declared.Counted.{Counted}
 use Rattle.slices.specs.declared.SourceSlice.{SourceSlice}
-use Rattle.msf.specs.Msf.{slicesIn, bytesIn, mapping}
-use Rattle.msf.specs.Promises.{mapped, lengthIn, Maps, Extracts}
-use Rattle.msf.specs.declared.limit.Limit.{Limit}
-use Rattle.msf.specs.declared.to_slices.Mapping.{Mapping}
+use Rattle.mapping.specs.Mapping.{slicesIn, mapping, mapped}
+use Rattle.msf.specs.Extraction.{bytesIn, lengthIn}
+use Rattle.msf.specs.Promises.{Maps, Extracts}
+use Rattle.extent.specs.declared.limit.Limit.{Limit}
+use Rattle.mapping.specs.declared.Mapping.{Mapping}
 use Rattle.msf.specs.declared.to_bytes.Extracted.{Extracted}
 use Rattle.slice_store.specs.Promises.{MapsInto}
-use Rattle.container.proofs.Statements.{single-valued}
+use Rattle.container_statements.proofs.Statements.{single-valued}
 use Rattle.isolation.specs.Listed.{ListedOpen, ListedCount, Listed, ListedBytes, Agree}
 use Rattle.isolation.specs.Isolation.{Isolation}
 use Rattle.isolation.proofs.Same.{bind-same, written-same, located-same, streamCount-same}

@@ -1,4 +1,4 @@
--- Where what is listed stands, in file F and in F with a shorter directory: by F's words, computed once, and by what a stage
+-- Where what is skippedTo stands, in file F and in F with a shorter directory: by F's words, computed once, and by what a stage
 -- that passed says of the header and the stream.
 use mathlib.Core.Path.{_≡_, refl, sym, _∙_, ap}
 use mathlib.Core.Bool.{true, false}
@@ -14,15 +14,14 @@ use Rattle.parse_buffer.specs.Bytes.{File, word}
 use Rattle.paged.specs.PageSize.{sizeFits, need}
 use Rattle.paged.specs.Pages.{through, location, directoryPage, directoryWord}
 use Rattle.paged.proofs.SizeLaws.{need-least}
-use Rattle.header.specs.Header.{bigMagic, standsAt, sized, headed, located, directoryPages, locationPages}
+use Rattle.header.specs.Header.{bigMagic, standsAt, sized, headed, located, directoryPages, locationPages, words}
 use Rattle.header.specs.declared.Header.{Header}
 use Rattle.header.proofs.OpenLaws.{is-located}
-use Rattle.directory.specs.Directory.{words}
-use Rattle.directory.proofs.DirectoryLaws.{reached-located}
+use Rattle.directory.proofs.DirectoryLaws.{reached-at}
 use Rattle.stream.specs.Stream as stream
-use Rattle.stream.specs.Stream.{absent, sizeAt, pagesOf, pagesBefore, firstOf, ownPage, listed}
+use Rattle.stream.specs.Stream.{absent, sizeAt, pagesOf, pagesBefore, firstOf, ownPage, skippedTo}
 use Rattle.stream.specs.declared.Found.{Found}
-use Rattle.container.specs.FileF.{fileF, F}
+use Rattle.container_statements.specs.FileF.{fileF, F}
 use Rattle.isolation.specs.Listed.{entryPlace, wordPlace}
 use Rattle.isolation.specs.Tight.{changed}
 
@@ -104,8 +103,8 @@ module _ {g : File} {n : ℕ} (like : Like g n) (small : n ≤ 36) where
     pub present : eqb (sizeAt g 256 k) absent ≡ false
     pub is : x ≡ record { header = headerF n; size = sizeAt g 256 k; first = firstOf g 256 3 k }
 
-  pub listed-is : (k : ℕ) {x : Found} → listed g 6144 k ≡ ok x → Is k x
-  unfolding listed stream.sized
+  pub listed-is : (k : ℕ) {x : Found} → skippedTo g 6144 k ≡ ok x → Is k x
+  unfolding skippedTo stream.sized
   listed-is k {x} e =
       came-by _ _ e λ y s e₁.
       came _ _ e₁ λ _ _ e₂.
@@ -115,9 +114,9 @@ module _ {g : File} {n : ℕ} (like : Like g n) (small : n ≤ 36) where
       came _ _ s₂ λ _ l s₃.
       came _ _ s₃ λ _ _ s₄.
       came _ _ s₄ λ _ a s₅.
-      let same = header-is (reached-located g 6144 d) in
-      let below : k < directoryWord g (h .size) 0 = ltb-true _ _ (passed _ _ l) in
-      let present : eqb (sizeAt g (h .size) k) absent ≡ false = not-true _ (passed _ _ a) in
+      let same = header-is (reached-at g 6144 d) in
+      let below : k < directoryWord g (h .pagesize) 0 = ltb-true _ _ (passed _ _ l) in
+      let present : eqb (sizeAt g (h .pagesize) k) absent ≡ false = not-true _ (passed _ _ a) in
       record {
         below = rw (same, like .count) at below;
         present = rw same at present;
@@ -128,15 +127,15 @@ module _ {g : File} {n : ℕ} (like : Like g n) (small : n ≤ 36) where
   abbrev pub stream-in : ℕ → ℕ → Found
   stream-in size first = record { header = headerF n; size = size; first = first }
 
-  pub is-0 : {x : Found} → listed g 6144 0 ≡ ok x → x ≡ stream-in 300 4
+  pub is-0 : {x : Found} → skippedTo g 6144 0 ≡ ok x → x ≡ stream-in 300 4
   unfolding pagesBefore
   is-0 e = rw (like .size-0) at (listed-is 0 e .is)
 
-  pub is-2 : {x : Found} → listed g 6144 2 ≡ ok x → x ≡ stream-in 600 6
+  pub is-2 : {x : Found} → skippedTo g 6144 2 ≡ ok x → x ≡ stream-in 600 6
   unfolding pagesBefore pagesOf need
   is-2 e = simp (like .size-0, like .size-1, like .size-2) at (listed-is 2 e .is)
 
-  pub not-1 : {x : Found} → listed g 6144 1 ≡ ok x → ⊥
+  pub not-1 : {x : Found} → skippedTo g 6144 1 ≡ ok x → ⊥
   not-1 e = let p = rw (like .size-1) at (listed-is 1 e .present) in let z : _≡_ {A = ℕ} 0 1 = cc in omega arith
 
   pub place-0 : (j : ℕ) → j < 300 → through 256 (ownPage g (stream-in 300 4)) j ≡ 5120 + j

@@ -15,9 +15,10 @@ use Rattle.paged.proofs.SizeLaws.{need-index, need-least}
 use Rattle.stream.specs.Stream.{ownPage, ownPages}
 use Rattle.slices.specs.Slices.{total, placeOf}
 use Rattle.slices.specs.declared.SourceSlice.{SourceSlice}
-use Rattle.msf.specs.Msf.{Placed, placed, slicesIn}
-use Rattle.msf.specs.declared.limit.Limit.{Limit}
-use Rattle.container.proofs.Statements.{large, held, is-total, is-place}
+use Rattle.extent.specs.Extent.{Asked, asked}
+use Rattle.mapping.specs.Mapping.{slicesIn}
+use Rattle.extent.specs.declared.limit.Limit.{Limit}
+use Rattle.container_statements.proofs.Statements.{large, held, is-total, is-place}
 use Rattle.isolation.specs.Listed.{Named}
 use Rattle.isolation.specs.NamedExactly.{StreamByte, InPages, NamedExactly}
 use Rattle.isolation.proofs.InPagesLaws.{byte-in-pages}
@@ -56,8 +57,8 @@ byte-of (s ∷ rest) i (Named.there n) =
     }
 
 -- ---- a stream's slices
-module _ (f : File) (len k : ℕ) (limit : Limit) {x : Placed} (p : placed f len k limit ≡ ok x) where
-  pub is-named : (j : ℕ) → j < x .size → Named (slicesIn f x) (through (x .found .header .size) (ownPage f (x .found)) j)
+module _ (f : File) (len k : ℕ) (limit : Limit) {x : Asked} (p : asked f len k limit ≡ ok x) where
+  pub is-named : (j : ℕ) → j < x .size → Named (slicesIn f x) (through (x .found .header .pagesize) (ownPage f (x .found)) j)
   is-named j l =
       rw (← is-place f len k limit p j l) (named (slicesIn f x) j (rw (is-total f len k limit p) l))
 
@@ -68,17 +69,17 @@ module _ (f : File) (len k : ℕ) (limit : Limit) {x : Placed} (p : placed f len
       record { index = b .index; below = l; at = sym (b .at) ∙ is-place f len k limit p (b .index) l }
 
   -- the pages that hold what is asked for are among the stream's own
-  pub few : need (x .found .header .size) (x .size) ≤ ownPages (x .found)
+  pub few : need (x .found .header .pagesize) (x .size) ≤ ownPages (x .found)
   few =
-      need-least (x .found .header .size) (x .size) (large f len k limit p) (ownPages (x .found)) (held f len k limit p)
+      need-least (x .found .header .pagesize) (x .size) (large f len k limit p) (ownPages (x .found)) (held f len k limit p)
 
-  pub named-in-pages : (i : ℕ) → Named (slicesIn f x) i → InPages (x .found .header .size) (ownPage f (x .found)) (ownPages (x .found)) i
+  pub named-in-pages : (i : ℕ) → Named (slicesIn f x) i → InPages (x .found .header .pagesize) (ownPage f (x .found)) (ownPages (x .found)) i
   named-in-pages i n =
       let b = stream-byte i n in
       let pos = large f len k limit p in
-      let l = need-index (x .found .header .size) (x .size) pos (b .index) (b .below) in
+      let l = need-index (x .found .header .pagesize) (x .size) pos (b .index) (b .below) in
       let m = few in
-      rw (b .at) (byte-in-pages (x .found .header .size) (ownPage f (x .found)) (ownPages (x .found)) pos (b .index) (omega arith))
+      rw (b .at) (byte-in-pages (x .found .header .pagesize) (ownPage f (x .found)) (ownPages (x .found)) pos (b .index) (omega arith))
 
 pub named-exactly : (f : File) (len k : ℕ) (limit : Limit) → NamedExactly f len k limit
 named-exactly f len k limit =

@@ -1,4 +1,4 @@
--- On file F: a listed byte is one of the header's, the location list's, of a word that is asked for in the directory, or of
+-- On file F: a skippedTo byte is one of the header's, the location list's, of a word that is asked for in the directory, or of
 -- the stream; that gives the ranges of each stream, and what lies beside them.
 use mathlib.Core.Path.{_≡_, refl, sym, _∙_}
 use mathlib.Core.Bool.{Bool, true, false, cond}
@@ -14,18 +14,18 @@ use Rattle.outcome.proofs.OutcomeLaws.{below-or, and-true, ok-is}
 use Rattle.parse_buffer.specs.Bytes.{File}
 use Rattle.paged.specs.PageSize.{need}
 use Rattle.paged.specs.Pages.{through, directoryWord}
-use Rattle.header.specs.Header.{located, directoryPages}
+use Rattle.header.specs.Header.{located, directoryPages, words}
 use Rattle.header.specs.declared.Header.{Header}
-use Rattle.directory.specs.Directory.{words, reached}
-use Rattle.directory.proofs.DirectoryLaws.{reached-located}
-use Rattle.stream.specs.Stream.{ownPage, ownPages, listed}
+use Rattle.directory.specs.Directory.{reached}
+use Rattle.directory.proofs.DirectoryLaws.{reached-at}
+use Rattle.stream.specs.Stream.{ownPage, ownPages, skippedTo}
 use Rattle.stream.specs.declared.Found.{Found}
-use Rattle.stream.proofs.FindLaws.{listed-at, found-at}
-use Rattle.msf.specs.Msf.{lengthOf, placed}
-use Rattle.msf.specs.declared.limit.Limit.{Limit}
-use Rattle.msf.specs.declared.limit.Limit.the-variants.{None, AtMost}
-use Rattle.msf.proofs.PlaceLaws.{length-most}
-use Rattle.container.specs.FileF.{F}
+use Rattle.stream.proofs.FindLaws.{skipped-at, found-at}
+use Rattle.extent.specs.Extent.{lengthOf, asked}
+use Rattle.extent.specs.declared.limit.Limit.{Limit}
+use Rattle.extent.specs.declared.limit.Limit.the-variants.{None, AtMost}
+use Rattle.extent.proofs.ExtentLaws.{length-most}
+use Rattle.container_statements.specs.FileF.{F}
 use Rattle.isolation.specs.Listed.{entryPlace, wordPlace, ListedOpen, ListedCount, Listed, ListedBytes}
 use Rattle.isolation.specs.Tight.{changed, Within, startF, streamZero, streamTwo, NotListed, NotTooMuch}
 use Rattle.isolation.proofs.NamedExactly.{stream-byte}
@@ -33,16 +33,16 @@ use Rattle.isolation.proofs.StreamSame.{placed-found, placed-size, read
 use Rattle.isolation.proofs.Corollaries.{first-256, no-free-map, no-reserved}
 use Rattle.isolation.proofs.LikeF.{Like, likeF, like-short, header-is, one-location, entry-at, word-at, listed-is, is-0, not-1, is-2, place-0, place-2, last-2}
 
--- ---- what a listed byte is, where the directory has n bytes
+-- ---- what a skippedTo byte is, where the directory has n bytes
 data Asked (g : File) (k i : ℕ) : Type 0 where
   count : 1024 ≤ i → i < 1028 → Asked g k i
   size : k < 3 → 1028 ≤ i → i < 1032 + 4 * k → Asked g k i
-  own : {x : Found} → listed g 6144 k ≡ ok x → 1024 + 4 * x .first ≤ i → i < 1024 + 4 * (x .first + ownPages x) → Asked g k i
+  own : {x : Found} → skippedTo g 6144 k ≡ ok x → 1024 + 4 * x .first ≤ i → i < 1024 + 4 * (x .first + ownPages x) → Asked g k i
 
 data Part (g : File) (n k : ℕ) (limit : Limit) (i : ℕ) : Type 0 where
   start : Within startF i → Part g n k limit i
   word : i < 1024 + 4 * (n / 4) → Asked g k i → Part g n k limit i
-  byte : {j : ℕ} {x : Found} → listed g 6144 k ≡ ok x → j < lengthOf limit (x .size) → i ≡ through (x .header .size) (ownPage g x) j → Part g n k limit i
+  byte : {j : ℕ} {x : Found} → skippedTo g 6144 k ≡ ok x → j < lengthOf limit (x .size) → i ≡ through (x .header .pagesize) (ownPage g x) j → Part g n k limit i
 
 module _ {g : File} {n : ℕ} (like : Like g n) (small : n ≤ 36) where
   entry-of : {h : Header} → located g 6144 ≡ ok h → (j : ℕ) → j < directoryPages h → entryPlace g h j ≡ 768
@@ -50,12 +50,12 @@ module _ {g : File} {n : ℕ} (like : Like g n) (small : n ≤ 36) where
 
   record Directory (h : Header) : Type 0 where
     held : words h ≡ n / 4
-    count : directoryWord g (h .size) 0 ≡ 3
+    count : directoryWord g (h .pagesize) 0 ≡ 3
     word : (w : ℕ) → w < words h → wordPlace g h w ≡ 1024 + 4 * w
 
   directory : {h : Header} → reached g 6144 ≡ ok h → Directory h
   directory d =
-      rw (header-is like small (reached-located g 6144 d)) record { held = refl; count = like .count; word = word-at like small }
+      rw (header-is like small (reached-at g 6144 d)) record { held = refl; count = like .count; word = word-at like small }
 
   part : (k : ℕ) (limit : Limit) (i : ℕ) → ListedBytes g 6144 k limit i → Part g n k limit i
   part k limit i (ListedBytes.mapping (Listed.counting (ListedCount.opening (ListedOpen.start l)))) =
@@ -80,11 +80,11 @@ module _ {g : File} {n : ℕ} (like : Like g n) (small : n ≤ 36) where
       let e = r .word (1 + j) (omega (arith, leb-true)) in
       Part.word (omega (arith, leb-true, w .1)) (Asked.size (omega arith) (omega (arith, w .0)) (omega (arith, w .1)))
   part k limit i (ListedBytes.mapping (Listed.pages {j} {x} s l t w)) =
-      let r = directory (listed-at g 6144 k s .reached) in
+      let r = directory (skipped-at g 6144 k s .reached) in
       let e = r .word (x .first + j) (omega (arith, leb-true)) in
       Part.word (omega (arith, leb-true, w .1)) (Asked.own s (omega (arith, w .0)) (omega (arith, w .1)))
   part k limit i (ListedBytes.bytes {x} r m) =
-      let p : placed g 6144 k limit ≡ ok x = search readable-placed in
+      let p : asked g 6144 k limit ≡ ok x = search readable-placed in
       let b = stream-byte g 6144 k limit p i m in
       let size = placed-size g 6144 k limit p in
       Part.byte {j = b .index} (found-at g 6144 k (placed-found g 6144 k limit p) .listed) (omega (arith, b .below)) (b .at)
@@ -171,7 +171,7 @@ beside : (ranges : List (ℕ × ℕ)) {a b : ℕ} (i : ℕ) → a ≤ i → i < 
 beside ranges i l m c d = ⊎-elim (off startF i l m c) (off ranges i l m d)
 
 -- every stream's bytes stand past page 4
-past-four : {g : File} {n : ℕ} → Like g n → n ≤ 36 → (k : ℕ) (limit : Limit) {j : ℕ} {x : Found} → listed g 6144 k ≡ ok x → j < lengthOf limit (x .size) → 1280 ≤ through (x .header .size) (ownPage g x) j
+past-four : {g : File} {n : ℕ} → Like g n → n ≤ 36 → (k : ℕ) (limit : Limit) {j : ℕ} {x : Found} → skippedTo g 6144 k ≡ ok x → j < lengthOf limit (x .size) → 1280 ≤ through (x .header .pagesize) (ownPage g x) j
 past-four like small zero limit {j} s l =
     let same = is-0 like small s in
     let below = rw same at l in

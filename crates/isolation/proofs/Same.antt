@@ -20,11 +20,11 @@ use Rattle.paged.specs.Pages.{location, directoryPage, directoryWord}
 use Rattle.paged.specs.Checks.{checkPages, liesInFile}
 use Rattle.paged.specs.declared.refusal.Refusal.the-variants.{UnimplementedFeature, UnrecognizedFileFormat}
 use Rattle.paged.proofs.SizeLaws.{need-index}
-use Rattle.header.specs.Header.{bigMagic, smallMagic, standsAt, entries, headerOf, directoryPages, locationPages, headed, located}
+use Rattle.header.specs.Header.{bigMagic, smallMagic, standsAt, entriesInBlock, headerOf, directoryPages, locationPages, headed, located, words}
 use Rattle.header.specs.declared.Header.{Header}
 use Rattle.header.proofs.BlockLaws.{stands-same}
 use Rattle.header.proofs.OpenLaws.{is-located}
-use Rattle.directory.specs.Directory.{words, holds, reached, streamCount}
+use Rattle.directory.specs.Directory.{holds, reached, streamCount}
 use Rattle.isolation.specs.Listed.{InWord, wordPlace, listLies, ListedOpen, ListedCount, Agree}
 use Rattle.isolation.proofs.PassedLaws.{reached-at}
 
@@ -86,7 +86,7 @@ module _ (f g : File) (len : ℕ) (agree : Agree (ListedOpen f len) f g) where
       then-same magic-same λ _ _.
       refl)
 
-  location-listed : {h : Header} → headed f len ≡ ok h → (j : ℕ) → j < min (locationPages h) entries → location f j ≡ location g j
+  location-listed : {h : Header} → headed f len ≡ ok h → (j : ℕ) → j < min (locationPages h) entriesInBlock → location f j ≡ location g j
   unfolding location
   location-listed o j l = word-same λ i a b. agree i (ListedOpen.locations {j = j} o (omega arith) (omega arith))
 
@@ -109,12 +109,12 @@ module _ (f g : File) (len : ℕ) (agree : Agree (ListedCount f len) f g) where
   opens i l = agree i (ListedCount.opening l)
 
   module _ {h : Header} (o : located f len ≡ ok h) (inside : listLies f len h ≡ ok tt) where
-    entry-same : (j : ℕ) → j < directoryPages h → directoryPage f (h .size) j ≡ directoryPage g (h .size) j
+    entry-same : (j : ℕ) → j < directoryPages h → directoryPage f (h .pagesize) j ≡ directoryPage g (h .pagesize) j
     unfolding directoryPage
     entry-same j l =
         let at = is-located f len o in
         let s = at .size .least in
-        rw (← location-same f g len opens o (4 * j / h .size) (need-index (h .size) (4 * directoryPages h) (omega arith) (4 * j) (omega arith)))
+        rw (← location-same f g len opens o (4 * j / h .pagesize) (need-index (h .pagesize) (4 * directoryPages h) (omega arith) (4 * j) (omega arith)))
         (word-same λ i a b. agree i (ListedCount.list {j = j} {h = h} (cc) inside (omega arith) (omega arith)))
 
   pub reached-same : reached f len ≡ reached g len
@@ -128,15 +128,15 @@ module _ (f g : File) (len : ℕ) (agree : Agree (ListedCount f len) f g) where
 
   module _ {h : Header} (d : reached f len ≡ ok h) where
     -- a word that the directory holds: its page number is the same, and so the word, where its own four bytes are listed
-    pub held-same : (w : ℕ) → w < words h → ((i : ℕ) → InWord (wordPlace f h w) i → f i ≡ g i) → directoryWord f (h .size) w ≡ directoryWord g (h .size) w
+    pub held-same : (w : ℕ) → w < words h → ((i : ℕ) → InWord (wordPlace f h w) i → f i ≡ g i) → directoryWord f (h .pagesize) w ≡ directoryWord g (h .pagesize) w
     unfolding directoryWord
     held-same w t same =
         let at = reached-at f len d in
         let s = at .size .least in
-        rw (← entry-same (at .located) (at .list) (4 * w / h .size) (need-index (h .size) (h .directory) (omega arith) (4 * w) (omega arith)))
+        rw (← entry-same (at .located) (at .list) (4 * w / h .pagesize) (need-index (h .pagesize) (h .directory) (omega arith) (4 * w) (omega arith)))
         (word-same λ i a b. same i (omega arith))
 
-    pub count-same : holds h 1 ≡ true → directoryWord f (h .size) 0 ≡ directoryWord g (h .size) 0
+    pub count-same : holds h 1 ≡ true → directoryWord f (h .pagesize) 0 ≡ directoryWord g (h .pagesize) 0
     count-same t = held-same 0 (leb-true _ _ t) (λ i w. agree i (ListedCount.count d (omega (arith, leb-true, le-leb)) w))
 
   pub streamCount-same : streamCount f len ≡ streamCount g len

@@ -10,12 +10,12 @@ use Rattle.outcome.specs.Outcome.{Outcome, ok, refused, _>>=_}
 use Rattle.outcome.specs.Refusal as paper
 use Rattle.outcome.proofs.OutcomeLaws.{ok-is}
 use Rattle.parse_buffer.specs.Bytes.{File}
-use Rattle.header.specs.Header.{headerBlock, directoryPages, headed, located}
+use Rattle.header.specs.Header.{headerBlock, directoryPages, headed, located, words}
 use Rattle.header.specs.declared.Header.{Header}
-use Rattle.directory.specs.Directory.{words, reached}
-use Rattle.stream.proofs.FindLaws.{listed-at, found-at}
-use Rattle.msf.specs.Msf.{Placed, readable}
-use Rattle.msf.specs.declared.limit.Limit.{Limit}
+use Rattle.directory.specs.Directory.{reached}
+use Rattle.stream.proofs.FindLaws.{skipped-at, found-at}
+use Rattle.extent.specs.Extent.{Asked, readable}
+use Rattle.extent.specs.declared.limit.Limit.{Limit}
 use Rattle.isolation.specs.Listed.{InWord, entryPlace, wordPlace, listLies, ListedOpen, ListedCount, Listed, ListedBytes}
 use Rattle.isolation.specs.Stages.{OnList, Stages}
 use Rattle.isolation.proofs.PassedLaws.{reached-at}
@@ -41,7 +41,7 @@ stage f len k i (Listed.counting (ListedCount.list {j} {h} o inside l w)) =
 stage f len k i (Listed.counting (ListedCount.count d t w)) = Stage.word {w = 0} d (omega (arith, leb-true)) w
 stage f len k i (Listed.sizes {j} d _ _ t w) = Stage.word {w = 1 + j} d (omega (arith, leb-true)) w
 stage f len k i (Listed.pages {j} {x} s l t w) =
-    Stage.word {w = x .first + j} (listed-at f len k s .reached) (omega (arith, leb-true)) w
+    Stage.word {w = x .first + j} (skipped-at f len k s .reached) (omega (arith, leb-true)) w
 
 -- ---- where a stage refuses
 clash : {A : Type 0} {o : Outcome paper.Refusal A} {a : A} {why : paper.Refusal} → o ≡ ok a → o ≡ refused why → ⊥
@@ -77,7 +77,7 @@ module _ (f : File) (len i : ℕ) where
 
 -- ---- extraction: a stream that is read was found in a directory that was reached
 module _ (f : File) (len k : ℕ) (limit : Limit) (i : ℕ) where
-  pub read-reached : {x : Placed} → readable f len k limit ≡ ok x → reached f len ≡ ok (x .found .header)
+  pub read-reached : {x : Asked} → readable f len k limit ≡ ok x → reached f len ≡ ok (x .found .header)
   read-reached r = found-at f len k (placed-found f len k limit (readable-placed f len k limit r)) .reached
 
   bytes-refused : {why : paper.Refusal} → readable f len k limit ≡ refused why → ListedBytes f len k limit i → Listed f len k i

@@ -10,15 +10,18 @@ use Rattle.parse_buffer.specs.Bytes.{File}
 use Rattle.paged.specs.Pages.{through, directoryWord}
 use Rattle.paged.proofs.SizeLaws.{need-index}
 use Rattle.header.specs.declared.Header.{Header}
-use Rattle.directory.specs.Directory.{words, reached}
-use Rattle.stream.specs.Stream.{sizeAt, pagesBefore, ownPage, ownPages, sized, listed, found}
-use Rattle.stream.specs.declared.Sized.{Sized}
+use Rattle.header.specs.Header.{words}
+use Rattle.directory.specs.Directory.{reached}
+use Rattle.stream.specs.Stream.{sizeAt, pagesBefore, ownPage, ownPages, present, skippedTo, found}
+use Rattle.stream.specs.declared.Present.{Present}
 use Rattle.stream.specs.declared.Found.{Found}
-use Rattle.stream.proofs.FindLaws.{listed-at, found-at}
+use Rattle.stream.proofs.FindLaws.{skipped-at, found-at}
 use Rattle.slices.specs.Slices.{continues, slicesOf}
-use Rattle.msf.specs.Msf.{lengthOf, Placed, placed, slicesIn, mapping, bytesThrough, bytesIn, readable, extraction}
-use Rattle.msf.specs.declared.limit.Limit.{Limit}
-use Rattle.container.proofs.Statements.{mapping-placed, large, readable-at}
+use Rattle.extent.specs.Extent.{lengthOf, Asked, asked, readable}
+use Rattle.mapping.specs.Mapping.{slicesIn, mapping}
+use Rattle.msf.specs.Extraction.{bytesThrough, bytesIn, extraction}
+use Rattle.extent.specs.declared.limit.Limit.{Limit}
+use Rattle.container_statements.proofs.Statements.{mapping-placed, large, readable-at}
 use Rattle.isolation.specs.Listed.{ListedCount, Listed, ListedBytes, Agree}
 use Rattle.isolation.proofs.NamedExactly.{is-named, few}
 use Rattle.isolation.proofs.Same.{bind-same, then-same, check-same, lies-same, reached-same, held-same, count-same}
@@ -34,18 +37,18 @@ slices-same size zero h = refl
 slices-same size (suc n) h = rw (slices-same size n (λ j l. h j (omega arith)), continues-same n h, h n (omega arith))
 
 -- ---- what a stage that passed says of the one before it
-module _ (f : File) (len k : ℕ) (limit : Limit) {x : Placed} where
-  pub placed-found : placed f len k limit ≡ ok x → found f len k ≡ ok (x .found)
-  unfolding placed
+module _ (f : File) (len k : ℕ) (limit : Limit) {x : Asked} where
+  pub placed-found : asked f len k limit ≡ ok x → found f len k ≡ ok (x .found)
+  unfolding asked
   placed-found p =
       came-by _ _ p λ y e e₁.
-      e ∙ ap (λ (z : Placed). ok (z .found)) (ok-is e₁)
+      e ∙ ap (λ (z : Asked). ok (z .found)) (ok-is e₁)
 
-  pub placed-size : placed f len k limit ≡ ok x → x .size ≡ lengthOf limit (x .found .size)
-  unfolding placed
+  pub placed-size : asked f len k limit ≡ ok x → x .size ≡ lengthOf limit (x .found .size)
+  unfolding asked
   placed-size p = came-by _ _ p λ y _ e₁. rw (← ok-is e₁) refl
 
-  pub readable-placed : readable f len k limit ≡ ok x → placed f len k limit ≡ ok x
+  pub readable-placed : readable f len k limit ≡ ok x → asked f len k limit ≡ ok x
   readable-placed e = readable-at f len k limit e .placed
 
 -- ---- mapping
@@ -53,18 +56,18 @@ module _ (f g : File) (len k : ℕ) (agree : Agree (Listed f len k) f g) where
   counts : Agree (ListedCount f len) f g
   counts i l = agree i (Listed.counting l)
 
-  module _ {h : Header} (d : reached f len ≡ ok h) (l : k < directoryWord f (h .size) 0) (t : 2 + k ≤ words h) where
-    size-same : (j : ℕ) → j ≤ k → sizeAt f (h .size) j ≡ sizeAt g (h .size) j
+  module _ {h : Header} (d : reached f len ≡ ok h) (l : k < directoryWord f (h .pagesize) 0) (t : 2 + k ≤ words h) where
+    size-same : (j : ℕ) → j ≤ k → sizeAt f (h .pagesize) j ≡ sizeAt g (h .pagesize) j
     size-same j m =
         held-same f g len counts d (1 + j) (omega arith) (λ i w. agree i (Listed.sizes {j = j} d (omega arith) (omega arith) (omega (arith, le-leb)) w))
 
-    before-same : (j : ℕ) → j ≤ k → pagesBefore f (h .size) j ≡ pagesBefore g (h .size) j
+    before-same : (j : ℕ) → j ≤ k → pagesBefore f (h .pagesize) j ≡ pagesBefore g (h .pagesize) j
     unfolding pagesBefore
     before-same zero m = refl
     before-same (suc j) m = rw (before-same j (omega arith), size-same j (omega arith))
 
-  sized-same : sized f len k ≡ sized g len k
-  unfolding sized
+  sized-same : present f len k ≡ present g len k
+  unfolding present
   sized-same =
       bind-same (reached-same f g len counts) λ h d.
       then-same refl λ _ t.
@@ -74,25 +77,25 @@ module _ (f g : File) (len k : ℕ) (agree : Agree (Listed f len k) f g) where
       rw (← size-same d (ltb-true _ _ (passed _ _ l)) (leb-true _ _ (passed _ _ t′)) k (le-refl k))
       refl)
 
-  sized-before : {x : Sized} → sized f len k ≡ ok x → pagesBefore f (x .header .size) k ≡ pagesBefore g (x .header .size) k
-  unfolding sized
+  sized-before : {x : Present} → present f len k ≡ ok x → pagesBefore f (x .header .pagesize) k ≡ pagesBefore g (x .header .pagesize) k
+  unfolding present
   sized-before {x} e =
       came-by _ _ e λ h d e₁.
       came _ _ e₁ λ _ _ e₂.
       came _ _ e₂ λ _ l e₃.
       came _ _ e₃ λ _ t e₄.
       came _ _ e₄ λ _ _ e₅.
-      let same : h ≡ x .header = ap (λ (z : Sized). z .header) (ok-is e₅) in
+      let same : h ≡ x .header = ap (λ (z : Present). z .header) (ok-is e₅) in
       rw (← same) (before-same d (ltb-true _ _ (passed _ _ l)) (leb-true _ _ (passed _ _ t)) k (le-refl k))
 
-  listed-same : listed f len k ≡ listed g len k
-  unfolding listed
+  listed-same : skippedTo f len k ≡ skippedTo g len k
+  unfolding skippedTo
   listed-same = bind-same sized-same λ x s. rw (sized-before s)
 
-  module _ {x : Found} (s : listed f len k ≡ ok x) where
+  module _ {x : Found} (s : skippedTo f len k ≡ ok x) where
     own-same : (j : ℕ) → j < ownPages x → x .first + j < words (x .header) → ownPage f x j ≡ ownPage g x j
     own-same j l t =
-        held-same f g len counts (listed-at f len k s .reached) (x .first + j) t
+        held-same f g len counts (skipped-at f len k s .reached) (x .first + j) t
         (λ i w. agree i (Listed.pages {j = j} s (omega arith) (omega (arith, le-leb)) w))
 
   found-same : found f len k ≡ found g len k
@@ -102,11 +105,11 @@ module _ (f g : File) (len k : ℕ) (agree : Agree (Listed f len k) f g) where
       then-same (check-same _ _ (λ j l. own-same s j (omega arith) (omega arith))) λ _ _.
       refl
 
-  pub placed-same : (limit : Limit) → placed f len k limit ≡ placed g len k limit
-  unfolding placed
+  pub placed-same : (limit : Limit) → asked f len k limit ≡ asked g len k limit
+  unfolding asked
   placed-same limit = rw found-same
 
-  module _ (limit : Limit) {x : Placed} (p : placed f len k limit ≡ ok x) where
+  module _ (limit : Limit) {x : Asked} (p : asked f len k limit ≡ ok x) where
     pub page-same : (j : ℕ) → j < ownPages (x .found) → ownPage f (x .found) j ≡ ownPage g (x .found) j
     page-same j l =
         let at = found-at f len k (placed-found f len k limit p) in
@@ -114,13 +117,13 @@ module _ (f g : File) (len k : ℕ) (agree : Agree (Listed f len k) f g) where
         own-same (at .listed) j l (omega arith)
 
     pub slicesIn-same : slicesIn f x ≡ slicesIn g x
-    slicesIn-same = rw (slices-same (x .found .header .size) (ownPages (x .found)) page-same)
+    slicesIn-same = rw (slices-same (x .found .header .pagesize) (ownPages (x .found)) page-same)
 
   pub mapping-same : (limit : Limit) (room : ℕ) → mapping f len k limit room ≡ mapping g len k limit room
   unfolding mapping
   mapping-same limit room = bind-same (placed-same limit) λ x p. rw (slicesIn-same limit p)
 
-  pub mapped-slices : (limit : Limit) (room : ℕ) {x : Placed} → mapping f len k limit room ≡ ok x → slicesIn f x ≡ slicesIn g x
+  pub mapped-slices : (limit : Limit) (room : ℕ) {x : Asked} → mapping f len k limit room ≡ ok x → slicesIn f x ≡ slicesIn g x
   mapped-slices limit room m = slicesIn-same limit (mapping-placed f len k limit room m)
 
 -- ---- extraction
@@ -140,20 +143,20 @@ module _ (f g : File) (len k : ℕ) (limit : Limit) (agree : Agree (ListedBytes 
       then-same (lies-same _ _ _ _ (λ j l. let m = few f len k limit p in page-same f g len k maps limit p j (omega arith))) λ _ _.
       refl
 
-  pub bytesIn-same : {x : Placed} → readable f len k limit ≡ ok x → bytesIn f x ≡ bytesIn g x
+  pub bytesIn-same : {x : Asked} → readable f len k limit ≡ ok x → bytesIn f x ≡ bytesIn g x
   bytesIn-same {x} r =
       let p = readable-placed f len k limit r in
-      through-same f g (x .found .header .size) (ownPage f (x .found)) (ownPage g (x .found)) (x .size) (λ i l.
+      through-same f g (x .found .header .pagesize) (ownPage f (x .found)) (ownPage g (x .found)) (x .size) (λ i l.
       let m = few f len k limit p in
-      let n = need-index (x .found .header .size) (x .size) (large f len k limit p) i l in
-      rw (← page-same f g len k maps limit p (i / x .found .header .size) (omega arith))
+      let n = need-index (x .found .header .pagesize) (x .size) (large f len k limit p) i l in
+      rw (← page-same f g len k maps limit p (i / x .found .header .pagesize) (omega arith))
       (agree _ (ListedBytes.bytes {x = x} (cc) (is-named f len k limit p i l))))
 
   pub extraction-same : (room : ℕ) → extraction f len k limit room ≡ extraction g len k limit room
   unfolding extraction
   extraction-same room = rw readable-same
 
-  pub extracted-bytes : (room : ℕ) {x : Placed} → extraction f len k limit room ≡ ok x → bytesIn f x ≡ bytesIn g x
+  pub extracted-bytes : (room : ℕ) {x : Asked} → extraction f len k limit room ≡ ok x → bytesIn f x ≡ bytesIn g x
   unfolding extraction
   extracted-bytes room e =
       came-by _ _ e λ y r e₁.

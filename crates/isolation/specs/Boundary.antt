@@ -3,7 +3,7 @@
 use mathlib.Core.List.{List}
 use Prim.Native.Nat.{ℕ}
 use Rattle.parse_buffer.specs.Bytes.{File}
-use Rattle.msf.specs.declared.limit.Limit.{Limit}
+use Rattle.extent.specs.declared.limit.Limit.{Limit}
 use Rattle.trovespan.specs.Promises.{Opens, Counts, Maps, Extracts}
 use Rattle.isolation.specs.Listed.{ListedOpen, ListedCount, Listed, ListedBytes, Agree}
 use Rattle.isolation.specs.Isolation.{Equal}

@@ -3,7 +3,7 @@
 use mathlib.Core.Logic.{_⊎_}
 use Prim.Native.Nat.{ℕ, _<_}
 use Rattle.parse_buffer.specs.Bytes.{File}
-use Rattle.msf.specs.declared.limit.Limit.{Limit}
+use Rattle.extent.specs.declared.limit.Limit.{Limit}
 use Rattle.isolation.specs.Listed.{ListedBytes}
 
 pub record InFile (f : File) (len k : ℕ) (limit : Limit) : Type 0 where

@@ -8,7 +8,7 @@ use Rattle.header.specs.Promises.{Opening}
 use Rattle.directory.specs.Promises.{Counting}
 use Rattle.slices.specs.declared.SourceSlice.{SourceSlice}
 use Rattle.msf.specs.Promises.{Maps, Extracts}
-use Rattle.msf.specs.declared.limit.Limit.{Limit}
+use Rattle.extent.specs.declared.limit.Limit.{Limit}
 use Rattle.slice_store.specs.Promises.{MapsInto}
 use Rattle.isolation.specs.Listed.{ListedOpen, ListedCount, Listed, ListedBytes, Agree}
 

@@ -9,14 +9,15 @@ use Rattle.outcome.specs.Refusal as paper
 use Rattle.parse_buffer.specs.Bytes.{File}
 use Rattle.paged.specs.Pages.{through, firstEntry, location, directoryPage, directoryWord}
 use Rattle.paged.specs.Checks.{liesInFile}
-use Rattle.header.specs.Header.{bigMagic, standsAt, entries, directoryPages, locationPages, headed, located}
+use Rattle.header.specs.Header.{bigMagic, standsAt, entriesInBlock, directoryPages, locationPages, headed, located}
 use Rattle.header.specs.declared.Header.{Header}
 use Rattle.directory.specs.Directory.{holds, reached}
-use Rattle.stream.specs.Stream.{ownPages, listed}
+use Rattle.stream.specs.Stream.{ownPages, skippedTo}
 use Rattle.stream.specs.declared.Found.{Found}
 use Rattle.slices.specs.declared.SourceSlice.{SourceSlice}
-use Rattle.msf.specs.Msf.{Placed, slicesIn, readable}
-use Rattle.msf.specs.declared.limit.Limit.{Limit}
+use Rattle.extent.specs.Extent.{Asked, readable}
+use Rattle.mapping.specs.Mapping.{slicesIn}
+use Rattle.extent.specs.declared.limit.Limit.{Limit}
 
 -- i is one of the four bytes of the word at a place
 abbrev pub InWord : ℕ → ℕ → Type 0
@@ -24,14 +25,14 @@ InWord at i = (at ≤ i) × (i < at + 4)
 
 -- where entry j of the location list stands, and word w of the directory
 abbrev pub entryPlace : File → Header → ℕ → ℕ
-entryPlace f h j = through (h .size) (location f) (4 * j)
+entryPlace f h j = through (h .pagesize) (location f) (4 * j)
 
 abbrev pub wordPlace : File → Header → ℕ → ℕ
-wordPlace f h w = through (h .size) (directoryPage f (h .size)) (4 * w)
+wordPlace f h w = through (h .pagesize) (directoryPage f (h .pagesize)) (4 * w)
 
 -- whether the location list lies in the file (refusal 6)
 abbrev pub listLies : File → ℕ → Header → Outcome paper.Refusal (Unit {0})
-listLies f len h = liesInFile len (h .size) (location f) (4 * directoryPages h) (locationPages h)
+listLies f len h = liesInFile len (h .pagesize) (location f) (4 * directoryPages h) (locationPages h)
 
 -- i is a place that one of the slices names
 pub data Named : List SourceSlice → ℕ → Type 0 where
@@ -46,8 +47,8 @@ pub data ListedOpen (f : File) (len : ℕ) : ℕ → Type 0 where
   fields : {i : ℕ} → 40 ≤ i → i < 48 → ListedOpen f len i
   -- and 36 to 39 too where bytes 0 to 31 are not the big magic
   small : {i : ℕ} → standsAt f 0 bigMagic ≡ false → 36 ≤ i → i < 40 → ListedOpen f len i
-  -- the location entries in the header block, if the page size passes
-  locations : {i j : ℕ} {h : Header} → headed f len ≡ ok h → j < min (locationPages h) entries →
+  -- the location entriesInBlock in the header block, if the page size passes
+  locations : {i j : ℕ} {h : Header} → headed f len ≡ ok h → j < min (locationPages h) entriesInBlock →
       InWord (firstEntry + 4 * j) i → ListedOpen f len i
 
 -- the stream count
@@ -64,17 +65,17 @@ pub data ListedCount (f : File) (len : ℕ) : ℕ → Type 0 where
 pub data Listed (f : File) (len k : ℕ) : ℕ → Type 0 where
   counting : {i : ℕ} → ListedCount f len i → Listed f len k i
   -- sizes 0 to k (as many as it holds; only the count if k is not below it)
-  sizes : {i j : ℕ} {h : Header} → reached f len ≡ ok h → k < directoryWord f (h .size) 0 → j ≤ k →
+  sizes : {i j : ℕ} {h : Header} → reached f len ≡ ok h → k < directoryWord f (h .pagesize) 0 → j ≤ k →
       holds h (2 + j) ≡ true → InWord (wordPlace f h (1 + j)) i → Listed f len k i
-  -- and k's own page entries as many as it holds
-  pages : {i j : ℕ} {x : Found} → listed f len k ≡ ok x → j < ownPages x →
+  -- and k's own page entriesInBlock as many as it holds
+  pages : {i j : ℕ} {x : Found} → skippedTo f len k ≡ ok x → j < ownPages x →
       holds (x .header) (x .first + j + 1) ≡ true → InWord (wordPlace f (x .header) (x .first + j)) i → Listed f len k i
 
 -- extracting it
 pub data ListedBytes (f : File) (len k : ℕ) (limit : Limit) : ℕ → Type 0 where
   mapping : {i : ℕ} → Listed f len k i → ListedBytes f len k limit i
   -- file bytes named by the cut slices, if all lie in the file
-  bytes : {i : ℕ} {x : Placed} → readable f len k limit ≡ ok x → Named (slicesIn f x) i → ListedBytes f len k limit i
+  bytes : {i : ℕ} {x : Asked} → readable f len k limit ≡ ok x → Named (slicesIn f x) i → ListedBytes f len k limit i
 
 -- two files agree on a list of bytes
 abbrev pub Agree : (ℕ → Type 0) → File → File → Type 0

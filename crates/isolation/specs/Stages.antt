@@ -10,8 +10,8 @@ use Rattle.parse_buffer.specs.Bytes.{File}
 use Rattle.header.specs.Header.{headerBlock, directoryPages, headed, located}
 use Rattle.header.specs.declared.Header.{Header}
 use Rattle.directory.specs.Directory.{reached}
-use Rattle.msf.specs.Msf.{readable}
-use Rattle.msf.specs.declared.limit.Limit.{Limit}
+use Rattle.extent.specs.Extent.{readable}
+use Rattle.extent.specs.declared.limit.Limit.{Limit}
 use Rattle.isolation.specs.Listed.{InWord, entryPlace, listLies, ListedOpen, Listed, ListedBytes}
 
 -- i is a byte of the location list

@@ -9,15 +9,15 @@ use lib.Dec.{eqb}
 use Rattle.outcome.specs.Outcome.{Outcome, ok, refused, _>>=_}
 use Rattle.outcome.specs.Refusal as paper
 use Rattle.parse_buffer.specs.Bytes.{File, byteAt}
-use Rattle.header.specs.Header.{smallMagic}
-use Rattle.header.specs.Promises.{opening}
+use Rattle.header.specs.Header.{smallMagic, opening}
 use Rattle.header.specs.declared.Container.{Container}
 use Rattle.directory.specs.Directory.{streamCount}
-use Rattle.msf.specs.Msf.{lengthOf, bytesIn, extraction}
-use Rattle.msf.specs.declared.limit.Limit.{Limit}
-use Rattle.msf.specs.declared.limit.Limit.the-variants.{None, AtMost}
-use Rattle.container.specs.FileF.{F}
-use Rattle.container.specs.Cases.{Answer, mappingOf, at}
+use Rattle.extent.specs.Extent.{lengthOf}
+use Rattle.msf.specs.Extraction.{bytesIn, extraction}
+use Rattle.extent.specs.declared.limit.Limit.{Limit}
+use Rattle.extent.specs.declared.limit.Limit.the-variants.{None, AtMost}
+use Rattle.container_statements.specs.FileF.{F}
+use Rattle.container_statements.specs.Cases.{Answer, mappingOf, at}
 use Rattle.isolation.specs.Listed.{ListedBytes}
 
 -- a file with another byte at one place

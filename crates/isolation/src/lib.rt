@@ -6,7 +6,7 @@
 
 ghost use Prim.Native.Nat.{ℕ};
 ghost use Rattle.parse_buffer.specs.Bytes.{File};
-ghost use Rattle.msf.specs.declared.limit.Limit.{Limit};
+ghost use Rattle.extent.specs.declared.limit.Limit.{Limit};
 ghost use Rattle.isolation.specs.Isolation.{Isolation};
 ghost use Rattle.isolation.specs.Boundary.{Boundary};
 ghost use Rattle.isolation.specs.Corollaries.{Corollaries};

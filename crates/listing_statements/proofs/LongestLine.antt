@@ -1,5 +1,4 @@
--- No line of a file of bytes is longer than 80: every number in it is below 2 ^ 32, so it has at most ten digits. The
--- laws on words, slices and refusals belong to the crates `parse_buffer`, `slices` and `stream`.
+-- No line of a file of bytes is longer than 80: every number in it is below 2 ^ 32, so it has at most ten digits.
 use mathlib.Core.Path.{_≡_, refl, ap}
 use mathlib.Core.List.{List, [], _∷_}
 use mathlib.Core.Logic.{⊎-elim}
@@ -14,6 +13,7 @@ use Rattle.outcome.specs.Refusal as paper
 use Rattle.outcome.proofs.OutcomeLaws.{by-test, below-or, came, came-by, ok-is, passed, Each-refusal, refuses-none, refuses-by, refuses-then, refuses-require}
 use Rattle.outcome.proofs.EachLaws.{refuses-each}
 use Rattle.parse_buffer.specs.Bytes.{File, word}
+use Rattle.parse_buffer.proofs.WordLaws.{word-small}
 use Rattle.paged.specs.Pages.{directoryWord}
 use Rattle.header.specs.declared.Header.{Header}
 use Rattle.header.proofs.OpenLaws.{is-located}
@@ -22,8 +22,8 @@ use Rattle.directory.proofs.DirectoryLaws.{reached-at}
 use Rattle.stream.specs.Stream.{ownPage, ownPages, present, skippedTo, found}
 use Rattle.stream.specs.declared.Found.{Found}
 use Rattle.stream.proofs.FindLaws.{found-at, present-at}
-use Rattle.slices.specs.Slices.{continues, lengthen, slicesOf, cut}
-use Rattle.slices.specs.declared.SourceSlice.{SourceSlice}
+use Rattle.slices.specs.Slices.{slicesOf, cut}
+use Rattle.slices.proofs.SliceLaws.{slices-few, cut-few}
 use Rattle.extent.specs.Extent.{asked}
 use Rattle.mapping.specs.Mapping.{mapped}
 use Rattle.listing_text.specs.Text.{spelled, decimal, refusalText, sizeText}
@@ -57,38 +57,11 @@ Small why = (why .number < 2 ^ 32) × (why .value < 2 ^ 32)
 refusal-short : (why : paper.Refusal) → Small why → length (refusalText why) ≤ 30
 refusal-short why s = let x = short (s .0) in let y = short (s .1) in simp length-append (omega arith)
 
--- ---- slices: at most one a page
-lengthen-same : (r : ℕ) (xs : List SourceSlice) → length (lengthen r xs) ≡ length xs
-unfolding lengthen
-lengthen-same r [] = refl
-lengthen-same r (x ∷ []) = refl
-lengthen-same r (x ∷ y ∷ xs) = ap suc (lengthen-same r (y ∷ xs))
-
-slices-few : (p : ℕ) (page : ℕ → ℕ) (n : ℕ) → length (slicesOf p page n) ≤ n
-unfolding slicesOf
-slices-few p page zero = omega arith
-slices-few p page (suc n) =
-    let before = slices-few p page n in
-    by-test (λ (xs : List SourceSlice). length xs ≤ suc n) (continues page n)
-    (λ _. rw lengthen-same (omega arith))
-    (λ _. rw length-append (omega arith))
-
-cut-few : (n : ℕ) (xs : List SourceSlice) → length (cut n xs) ≤ length xs
-unfolding cut
-cut-few n [] = omega arith
-cut-few n (x ∷ xs) =
-    let rest = cut-few (n - x .size) xs in
-    by-test (λ (ys : List SourceSlice). length ys ≤ suc (length xs)) (eqb n 0) (λ _. omega arith) (λ _. omega arith)
-
 -- ---- a file of bytes
 module _ (f : File) (bytes : (i : ℕ) → f i < 256) where
-  word-small : (at : ℕ) → word f at < 2 ^ 32
-  unfolding word
-  word-small at = omega (arith, bytes at, bytes (at + 1), bytes (at + 2), bytes (at + 3))
-
   directory-small : (p w : ℕ) → directoryWord f p w < 2 ^ 32
   unfolding directoryWord
-  directory-small p w = word-small _
+  directory-small p w = word-small f bytes _
 
   -- where the directory is reached: the refusals of finding a stream, and what is found
   module _ (len : ℕ) {h : Header} (d : reached f len ≡ ok h) (k : ℕ) (few : k < 2 ^ 32) where
@@ -125,9 +98,9 @@ module _ (f : File) (bytes : (i : ℕ) → f i < 256) where
     pages-small {x} e =
         let at = found-at f len k e in
         let inside = at .inside in
-        let is = is-located f len (reached-at f len (at .reached)) .is in
+        let is = is-located f len (reached-at f len (at .reached) .located) .is in
         let size : x .header .directory ≡ word f 44 = ap (λ (g : Header). g .directory) is in
-        omega (arith, word-small 44)
+        omega (arith, word-small f bytes 44)
 
     shown-short : (o : Outcome paper.Refusal Found) → found f len k ≡ o → length (shownText (shown f len k)) ≤ 30
     unfolding shownOf shownText mapped asked _>>=_
@@ -135,7 +108,7 @@ module _ (f : File) (bytes : (i : ℕ) → f i < 256) where
         let slices = cut-few (x .size) (slicesOf (x .header .pagesize) (ownPage f x) (ownPages x)) in
         let pages = slices-few (x .header .pagesize) (ownPage f x) (ownPages x) in
         let most = pages-small e in
-        let text = size-short (x .size) (length (cut (x .size) (slicesOf (x .header .pagesize) (ownPage f x) (ownPages x)))) (size-small (found-at f len k e .listed)) (omega arith) in
+        let text = size-short (x .size) (length (cut (x .size) (slicesOf (x .header .pagesize) (ownPage f x) (ownPages x)))) (size-small (found-at f len k e .skipped)) (omega arith) in
         rw e (omega arith)
     shown-short (refused why) e =
         rw e
@@ -143,7 +116,7 @@ module _ (f : File) (bytes : (i : ℕ) → f i < 256) where
         (λ _. let text = size-short 0 0 (omega arith) (omega arith) in omega arith)
         (λ _. refusal-short why (found-small why e)))
 
-  -- a file that is skippedTo has its directory, and few streams
+  -- a file that is listed has its directory, and few streams
   pub line-short : (len n : ℕ) → listable f len ≡ ok n → (i : ℕ) → i ≤ n → length (lineAt f len n i) ≤ 80
   unfolding listable streamCount lineAt
   line-short len n e zero l =

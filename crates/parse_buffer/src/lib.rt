@@ -4,6 +4,7 @@
 // specs/Bytes.antt has it, so that what is read never depends on who checked a length first.
 ghost use mathlib.Core.Path.{_≡_};
 ghost use Prim.Native.Nat.{_+_, _-_, _*_, _^_, _<_, _≤_};
+ghost use lib.Dec.{leb};
 ghost use lib.ListN.{length, take, drop};
 ghost use Rattle.parse_buffer.specs.Bytes.{byteAt, word};
 ghost use Rattle.parse_buffer.specs.Parse.{Parsing, Taking, InPlace};
@@ -23,32 +24,36 @@ pub enum Parsed {
 pub fn parse_u32(bytes: &[u8], at: usize) -> Parsed
     ensures { λ r. ⌜ Parsing (now (bytes .entry)) at r ⌝ }
 {
-    let n = bytes.len();
-    if n <= at {
+    if !can_take(bytes, at, 4) {
         return Parsed::ShortData;
     }
-    let left = n - at;
-    if left < 4 {
-        return Parsed::ShortData;
-    }
+    let next = at + 4;
     Parsed::Value(Word {
         value: word_at(bytes, at),
-        next: at + 4,
+        next,
     })
 }
 
-// The n bytes from a place on: the very part of the lent bytes, with no copy. Where they are not there, no byte.
+// The n bytes from a place on: the very part of the lent bytes, with no copy. If they are not there, an empty part.
 pub fn take(bytes: &[u8], at: usize, n: usize) -> &[u8]
     ensures { λ r. ⌜ Taking (bytes .entry) at n r ⌝ }
 {
-    if bytes.len() < at {
-        return part(bytes, 0, 0);
-    }
-    let left = bytes.len() - at;
-    if left < n {
+    if !can_take(bytes, at, n) {
         return part(bytes, 0, 0);
     }
     part(bytes, at, at + n)
+}
+
+// Whether n bytes are there from a place on: `take` returns them, and not an empty part in their stead.
+pub fn can_take(bytes: &[u8], at: usize, n: usize) -> bool
+    ensures { λ r. ⌜ r ≡ leb (at + n) (length (now (bytes .entry))) ⌝ }
+{
+    let len = bytes.len();
+    if len < at {
+        return false;
+    }
+    let left = len - at;
+    n <= left
 }
 
 // The little-endian number at a place.

@@ -12,6 +12,7 @@ use lib.Dec.{eqb}
 use lib.ListN.{length, set, length-append, length-map}
 use lib.Seq.{sets, set-set, length-sets}
 use Rattle.outcome.proofs.OutcomeLaws.{by-test}
+use Rattle.store.proofs.SetsLaws.{sets-snoc}
 use Rattle.paged.specs.PageSize.{PageSize, need}
 use Rattle.paged.specs.Checks.{wanted}
 use Rattle.paged.proofs.SizeLaws.{need-covers}
@@ -55,12 +56,6 @@ length-snoc ys s = length-append ys (s ∷ []) ∙ omega arith
 map-snoc : {B : Type 0} (g : SourceSlice → B) (ys : List SourceSlice) (s : SourceSlice) → map g (ys ++ s ∷ []) ≡ map g ys ++ g s ∷ []
 map-snoc g [] s = refl
 map-snoc {B} g (y ∷ ys) s = ap (λ (l : List B). g y ∷ l) (map-snoc g ys s)
-
-sets-snoc : {B : Type 0} (st : List B) (k : ℕ) (l : List B) (a : B) → sets st k (l ++ a ∷ []) ≡ set (sets st k l) (k + length l) a
-sets-snoc st k [] a = rw add-zero
-sets-snoc st k (x ∷ l) a =
-    let e : suc k + length l ≡ k + suc (length l) = omega arith in
-    sets-snoc (set st k x) (suc k) l a ∙ rw e
 
 -- a store that holds something of each of these slices, with one more at its end, or with another last one
 module _ {B : Type 0} (g : SourceSlice → B) (st : List B) (ys : List SourceSlice) where

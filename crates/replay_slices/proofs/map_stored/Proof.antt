@@ -56,8 +56,8 @@ use Rattle.paged.proofs.refusal.StreamNumber.Laws as N′
 use Rattle.slices.specs.declared.SourceSlice.{SourceSlice}
 use Rattle.slices.proofs.SourceSlice as T
 use Rattle.slices.proofs.SourceSlice.Laws as T′
-use Rattle.msf.specs.declared.limit.Limit.{Limit}
-use Rattle.msf.specs.declared.to_slices.Mapping.{Mapping}
+use Rattle.extent.specs.declared.limit.Limit.{Limit}
+use Rattle.mapping.specs.declared.Mapping.{Mapping}
 use Rattle.msf.proofs.limit.Limit as L
 use Rattle.msf.proofs.limit.Limit.Laws as L′
 use Rattle.msf.proofs.to_slices.Mapping as E
