@@ -35,12 +35,6 @@ module _ {s : List ℕ} (from : ℕ) where
   after-test true why h = h
   after-test false why h = stopped
 
-  -- the second operand, or none
-  after-second : (b : Bool) (v : Number) (k : Number → Outcome Stop Stepped) → v .next ≤ length s → ((w : Number) → v .next ≤ w .next → w .next ≤ length s → StepMoves s from (k w)) → StepMoves s from (cond b (numberAt s (v .next)) (ok (record { value = 0; next = v .next })) >>= k)
-  unfolding _>>=_
-  after-second true v k m h = after-number (v .next) k (λ w l m₁. h w (omega arith) m₁)
-  after-second false v k m h = h (record { value = 0; next = v .next }) (omega arith) m
-
 pub step-moves : (s : List ℕ) (at : ℕ) → StepMoves s at (stepAt s at)
 unfolding stepAt operands
 step-moves s at =
@@ -50,18 +44,19 @@ step-moves s at =
     by-test P (eqb (code .value) 0) (λ _. ended)
     (λ _. after-test at (leb (code .value) 13) _
     (after-number at (code .next) _ λ v l₁ m₁.
-    after-second at (eqb (code .value) 12) v _ m₁ λ w l₂ m₂. found (omega arith) m₂)))
+    by-test P (eqb (code .value) 12) (λ _. after-number at (v .next) _ λ w l₂ m₂. found (omega arith) m₂)
+    (λ _. found (omega arith) m₁))))
 
 -- (A record, and no pair: `search` takes a pair apart before it looks for a lemma.)
-pub record Moved (s : List ℕ) (at p : ℕ) : Type 0 where
+pub record Advanced (s : List ℕ) (at p : ℕ) : Type 0 where
   pub past : at + 2 ≤ p
   pub within : p ≤ length s
 
 module _ (s : List ℕ) (at : ℕ) {x : Found} (e : stepAt s at ≡ ok (annotation x)) where
-  pub moved : Moved s at (x .next)
-  moved = go _ (subst (StepMoves s at) e (step-moves s at)) refl
+  pub advanced : Advanced s at (x .next)
+  advanced = go _ (subst (StepMoves s at) e (step-moves s at)) refl
     where
-      go : (y : Outcome Stop Stepped) → StepMoves s at y → y ≡ ok (annotation x) → Moved s at (x .next)
+      go : (y : Outcome Stop Stepped) → StepMoves s at y → y ≡ ok (annotation x) → Advanced s at (x .next)
       go _ (found {x = x′} l m) g = let r : x′ ≡ x = cc in record { past = rw (← r) l; within = rw (← r) m }
       go _ ended g = absurd (let z : _≡_ {A = ℕ} 0 1 = cc in omega arith)
       go _ stopped g = absurd (let z : _≡_ {A = ℕ} 0 1 = cc in omega arith)

@@ -2,4 +2,3 @@ pub mod Signed
 pub mod Annotation
 pub mod Step
 pub mod Promises
-pub mod Inner

@@ -16,11 +16,11 @@ use Rattle.numbers.specs.Refusal.{Stop, stop}
 use Rattle.numbers.specs.Number.{numberAt}
 use Rattle.annotations.specs.Signed.{signedOf}
 use Rattle.annotations.specs.Step.{Found, Stepped, stepAt}
-use Rattle.decode.specs.Decode.{Run, onStep, runFrom, rest, decodeAll, entriesEach, noRoom, placed, decoding}
+use Rattle.decode.specs.Decode.{Run, onStep, runFrom, rest, decodeAll, entriesEach, noRoom, withPlace, decoding}
 use Rattle.numbers.specs.Promises.{uncompressedIn}
 use Rattle.annotations.specs.Promises.{stepIn}
 use Rattle.decode.specs.Promises.{decodedIn}
-use Rattle.annotations_statements.specs.Statements.{SingleValued, SignedReading, AtMostHalf, form, Exactly, NumberExactly, Steps, closing, Stepped-through, Agreement, DecodeExactly}
+use Rattle.annotations_statements.specs.Statements.{SingleValued, SignedReading, AtMostHalf, form, Exactly, NumberExactly, StepsTo, closing, Stepped-through, Agreement, DecodeExactly}
 use Rattle.annotations.proofs.MoveLaws.{StepMoves, step-moves}
 use Rattle.decode.proofs.RunLaws.{rest-on, rest-end, rest-refused, half}
 use Rattle.annotations_statements.proofs.Told.{told}
@@ -151,17 +151,17 @@ run-steps s zero at h = absurd (omega arith)
 run-steps s (suc fuel) at h = go (run-steps s fuel) (stepAt s at) (step-moves s at) refl
   where
     go : ((p : ℕ) → length s - p < fuel → Stepped-through s p (runFrom s fuel p)) → (y : Outcome Stop Stepped) → StepMoves s at y → stepAt s at ≡ y → Stepped-through s at (onStep at y (runFrom s fuel))
-    go later _ (StepMoves.found {x} l m) e = let r = later (x .next) (omega arith) in record { steps = Steps.more e (r .steps); closes = r .closes }
-    go later _ (StepMoves.ended {p}) e = record { steps = Steps.none; closes = e }
-    go later _ (StepMoves.stopped {why}) e = record { steps = Steps.none; closes = e }
+    go later _ (StepMoves.found {x} l m) e = let r = later (x .next) (omega arith) in record { steps = StepsTo.more e (r .steps); closes = r .closes }
+    go later _ (StepMoves.ended {p}) e = record { steps = StepsTo.none; closes = e }
+    go later _ (StepMoves.stopped {why}) e = record { steps = StepsTo.none; closes = e }
 
 closes-rest : (s : List ℕ) (at : ℕ) (last : Outcome Stop ℕ) → stepAt s at ≡ closing last → record { found = []; at = at; last = last } ≡ rest s at
 closes-rest s at (ok place) e = sym (rest-end s at e)
 closes-rest s at (refused why) e = sym (rest-refused s at e)
 
-steps-rest : {s : List ℕ} {at e : ℕ} {l : List Found} (last : Outcome Stop ℕ) → Steps s at l e → stepAt s e ≡ closing last → record { found = l; at = e; last = last } ≡ rest s at
-steps-rest {s} {at} last Steps.none c = closes-rest s at last c
-steps-rest {s} {at} last (Steps.more {x = x} e r) c =
+steps-rest : {s : List ℕ} {at e : ℕ} {l : List Found} (last : Outcome Stop ℕ) → StepsTo s at l e → stepAt s e ≡ closing last → record { found = l; at = e; last = last } ≡ rest s at
+steps-rest {s} {at} last StepsTo.none c = closes-rest s at last c
+steps-rest {s} {at} last (StepsTo.more {x = x} e r) c =
     ap (λ (q : Run). record { found = x ∷ q .found; at = q .at; last = q .last }) (steps-rest last r c) ∙ sym (rest-on s at e)
 
 pub agreement : Agreement
@@ -173,7 +173,7 @@ agreement =
     }
 
 -- ---- decoding all, exactly
-decodes : (last : Outcome Stop ℕ) (m room n : ℕ) → ((raise placed (last >> ok m) >>= λ k. require (leb (entriesEach * k) room) (noRoom (entriesEach * k)) >> ok k) ≡ ok n) ↔ ((n ≡ m) × ((place : ℕ) × (last ≡ ok place)) × (entriesEach * n ≤ room))
+decodes : (last : Outcome Stop ℕ) (m room n : ℕ) → ((raise withPlace (last >> ok m) >>= λ k. require (leb (entriesEach * k) room) (noRoom (entriesEach * k)) >> ok k) ≡ ok n) ↔ ((n ≡ m) × ((place : ℕ) × (last ≡ ok place)) × (entriesEach * n ≤ room))
 unfolding raise require _>>=_ _>>_
 decodes (refused why) m room n =
     (λ e. absurd (let z : _≡_ {A = ℕ} 0 1 = cc in omega arith), λ t. absurd (let f = t .1 .1 in let z : _≡_ {A = ℕ} 0 1 = cc in omega arith))

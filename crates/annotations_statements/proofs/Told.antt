@@ -1,5 +1,5 @@
 -- Each answer can be read back from what it says on paper, so no two answers say the same.
-use mathlib.Core.Path.{_≡_, refl}
+use mathlib.Core.Path.{_≡_, refl, ap}
 use mathlib.Core.Bool.{cond}
 use mathlib.Core.List.{[], _∷_}
 use mathlib.Core.Option.{some, none}
@@ -10,7 +10,7 @@ use lib.IntN.{natAbs}
 use Rattle.outcome.specs.Outcome.{Outcome, ok, refused}
 use Rattle.outcome.specs.Refusal as paper
 use Rattle.outcome.proofs.OnlyLaws.{read-back}
-use Rattle.numbers.specs.Refusal.{Stop, refusalIn}
+use Rattle.numbers.specs.Refusal.{Stop, refusalIn, stopIn}
 use Rattle.annotations.specs.Annotation.{tripleIn}
 use Rattle.annotations.specs.Step.{Stepped, annotation, end}
 use Rattle.decode.specs.Decode.{DecodeStop}
@@ -20,6 +20,7 @@ use Rattle.decode.specs.Promises.{decodedIn}
 use Rattle.annotations_statements.specs.Statements.{Told}
 use Rattle.numbers.specs.declared.refusal.Refusal.{Refusal}
 use Rattle.numbers.specs.declared.refusal.Refusal.the-variants.{ShortData, InvalidCompressedAnnotation, UnknownBinaryAnnotation}
+use Rattle.numbers.specs.declared.refusal.PlacedRefusal.{PlacedRefusal}
 use Rattle.numbers.specs.declared.number.Number.{Number}
 use Rattle.numbers.specs.declared.number.Uncompressed.{Uncompressed}
 use Rattle.numbers.specs.declared.number.Uncompressed.the-variants as uncompressed
@@ -41,6 +42,13 @@ refusal-is : (why : Refusal) → refusal-back (refusalIn why) ≡ why
 refusal-is ShortData = refl
 refusal-is InvalidCompressedAnnotation = refl
 refusal-is (UnknownBinaryAnnotation op) = refl
+
+-- with its place
+abbrev stop-back : Stop → PlacedRefusal
+stop-back x = record { refusal = refusal-back (x .refusal); place = x .place }
+
+stop-is : (why : PlacedRefusal) → stop-back (stopIn why) ≡ why
+stop-is why i = record { refusal = refusal-is (why .refusal) i; place = why .place }
 
 -- ---- annotations
 abbrev triple-back : Triple → BinaryAnnotation
@@ -81,33 +89,33 @@ triple-is (ChangeColumnEnd v) = refl
 -- ---- the answers of the three operations
 abbrev uncompressed-back : Outcome Stop Number → Uncompressed
 uncompressed-back (ok n) = uncompressed.Value n
-uncompressed-back (refused why) = uncompressed.Refused (refusal-back (why .refusal)) (why .place)
+uncompressed-back (refused why) = uncompressed.Refused (stop-back why)
 
 uncompressed-is : (r : Uncompressed) → uncompressed-back (uncompressedIn r) ≡ r
 unfolding uncompressedIn
 uncompressed-is (uncompressed.Value n) = refl
-uncompressed-is (uncompressed.Refused why place) = rw (refusal-is why)
+uncompressed-is (uncompressed.Refused why) = ap uncompressed.Refused (stop-is why)
 
 abbrev step-back : Outcome Stop Stepped → Step
 step-back (ok (annotation x)) = step.Annotation (record { annotation = triple-back (x .triple); next = x .next })
 step-back (ok (end place)) = step.End place
-step-back (refused why) = step.Refused (refusal-back (why .refusal)) (why .place)
+step-back (refused why) = step.Refused (stop-back why)
 
 step-is : (r : Step) → step-back (stepIn r) ≡ r
 unfolding stepIn
 step-is (step.Annotation a) = rw (triple-is (a .annotation))
 step-is (step.End place) = refl
-step-is (step.Refused why place) = rw (refusal-is why)
+step-is (step.Refused why) = ap step.Refused (stop-is why)
 
 -- (10 is told by its having no place)
 abbrev decoded-back : Outcome DecodeStop ℕ → Decoded
 decoded-back (ok n) = decoded.Count n
-decoded-back (refused why) = elim (why .place) [ none ↦ decoded.NoRoom (why .refusal .value) | some place ↦ decoded.Refused (refusal-back (why .refusal)) place ]
+decoded-back (refused why) = elim (why .place) [ none ↦ decoded.NoRoom (why .refusal .value) | some place ↦ decoded.Refused (stop-back (record { refusal = why .refusal; place = place })) ]
 
 decoded-is : (r : Decoded) → decoded-back (decodedIn r) ≡ r
 unfolding decodedIn
 decoded-is (decoded.Count n) = refl
-decoded-is (decoded.Refused why place) = rw (refusal-is why)
+decoded-is (decoded.Refused why) = ap decoded.Refused (stop-is why)
 decoded-is (decoded.NoRoom needed) = refl
 
 pub told : Told

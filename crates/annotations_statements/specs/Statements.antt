@@ -55,16 +55,18 @@ form b1 = cond (ltb b1 0x80) 1 (cond (ltb b1 0xc0) 2 4)
 -- a number is refused under 7's or 8's condition and no other, and otherwise read
 pub record Exactly (s : List ℕ) (at : ℕ) (answer : Outcome Stop Number) : Type 0 where
   pub short : (answer ≡ refused (stop ShortData (length s))) ↔ (length s < at + form (getD s at 0))
-  pub invalid : (answer ≡ refused (stop InvalidCompressedAnnotation (at + 4))) ↔ ((at + 4 ≤ length s) × (0xe0 ≤ getD s at 0))
+  pub invalid : (answer ≡ refused (stop InvalidCompressedAnnotation (at + 4)))
+      ↔ ((at + 4 ≤ length s) × (0xe0 ≤ getD s at 0))
   pub read : ((n : Number) × (answer ≡ ok n)) ↔ ((at + form (getD s at 0) ≤ length s) × (getD s at 0 < 0xe0))
 
 pub record NumberExactly : Type 0 where
   pub is : (s : List ℕ) (at : ℕ) → Exactly s at (numberAt s at)
 
 -- stepping from place to place: these annotations, up to that place
-pub data Steps (s : List ℕ) : ℕ → List Found → ℕ → Type 0 where
-  none : {at : ℕ} → Steps s at [] at
-  more : {at last : ℕ} {x : Found} {rest : List Found} → stepAt s at ≡ ok (annotation x) → Steps s (x .next) rest last → Steps s at (x ∷ rest) last
+pub data StepsTo (s : List ℕ) : ℕ → List Found → ℕ → Type 0 where
+  none : {at : ℕ} → StepsTo s at [] at
+  more : {at last : ℕ} {x : Found} {later : List Found} → stepAt s at ≡ ok (annotation x)
+      → StepsTo s (x .next) later last → StepsTo s at (x ∷ later) last
 
 -- a step that closes a run: the end, or a refusal
 abbrev pub closing : Outcome Stop ℕ → Outcome Stop Stepped
@@ -73,7 +75,7 @@ closing (refused why) = refused why
 
 -- stepping from a place on gives this run, up to the end or the first refusal
 pub record Stepped-through (s : List ℕ) (at : ℕ) (r : Run) : Type 0 where
-  pub steps : Steps s at (r .found) (r .at)
+  pub steps : StepsTo s at (r .found) (r .at)
   pub closes : stepAt s (r .at) ≡ closing (r .last)
 
 -- decode-all's run is what stepping gives, and no other run is
@@ -81,6 +83,11 @@ pub record Agreement : Type 0 where
   pub is : (s : List ℕ) → Stepped-through s 0 (decodeAll s)
   pub only : (s : List ℕ) (r : Run) → Stepped-through s 0 r → r ≡ decodeAll s
 
--- decoding all is accepted exactly where no step is refused and the store has the room
+-- n annotations are decoded: the run has so many, it comes to an end, and the store has the room
+abbrev pub Decodable : Run → ℕ → ℕ → Type 0
+Decodable run room n =
+    (n ≡ length (run .found)) × ((place : ℕ) × (run .last ≡ ok place)) × (entriesEach * n ≤ room)
+
+-- decoding all accepts exactly under these conditions
 pub record DecodeExactly : Type 0 where
-  pub is : (s : List ℕ) (room n : ℕ) → (decoding s room ≡ ok n) ↔ ((n ≡ length (decodeAll s .found)) × ((place : ℕ) × (decodeAll s .last ≡ ok place)) × (entriesEach * n ≤ room))
+  pub is : (s : List ℕ) (room n : ℕ) → (decoding s room ≡ ok n) ↔ Decodable (decodeAll s) room n

@@ -8,7 +8,7 @@ use Rattle.outcome.specs.Outcome.{Outcome, ok, refused}
 use Rattle.numbers.specs.Refusal.{Stop}
 use Rattle.annotations.specs.Step.{Found, Stepped, annotation, end, stepAt}
 use Rattle.decode.specs.Decode.{Run, onStep, runFrom, rest, decodeAll}
-use Rattle.annotations.proofs.MoveLaws.{StepMoves, found, ended, stopped, step-moves, moved}
+use Rattle.annotations.proofs.MoveLaws.{StepMoves, found, ended, stopped, step-moves, advanced}
 
 -- ---- enough fuel is as good as more
 on-same : {s : List ℕ} {at : ℕ} {x : Outcome Stop Stepped} {k l : ℕ → Run} → StepMoves s at x → ((p : ℕ) → at + 2 ≤ p → p ≤ length s → k p ≡ l p) → onStep at x k ≡ onStep at x l
@@ -28,7 +28,7 @@ module _ (s : List ℕ) (at : ℕ) where
   pub rest-on : {x : Found} → stepAt s at ≡ ok (annotation x) → rest s at ≡ record { found = x ∷ rest s (x .next) .found; at = rest s (x .next) .at; last = rest s (x .next) .last }
   unfolding rest runFrom onStep
   rest-on {x} e =
-      let m = moved s at e in
+      let m = advanced s at e in
       rw e (ap (λ (r : Run). record { found = x ∷ r .found; at = r .at; last = r .last }) (enough s (length s - at) (suc (length s - x .next)) (x .next) (omega arith) (omega arith)))
 
   pub rest-end : {p : ℕ} → stepAt s at ≡ ok (end p) → rest s at ≡ record { found = []; at = at; last = ok p }

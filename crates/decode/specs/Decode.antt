@@ -19,7 +19,8 @@ pub record Run : Type 0 where
 
 -- a step's answer, and what follows an annotation
 unfoldable pub onStep : ℕ → Outcome Stop Stepped → (ℕ → Run) → Run
-onStep at (ok (annotation x)) next = let r : Run = next (x .next) in record { found = x ∷ r .found; at = r .at; last = r .last }
+onStep at (ok (annotation x)) next =
+    let r : Run = next (x .next) in record { found = x ∷ r .found; at = r .at; last = r .last }
 onStep at (ok (end p)) next = record { found = []; at = at; last = ok p }
 onStep at (refused why) next = record { found = []; at = at; last = refused why }
 
@@ -28,8 +29,8 @@ unfoldable pub runFrom : List ℕ → ℕ → ℕ → Run
 runFrom s zero at = record { found = []; at = at; last = ok at }
 runFrom s (suc fuel) at = onStep at (stepAt s at) (runFrom s fuel)
 
--- all steps from a place on. (An annotation takes a byte at least, so this is fuel enough; `Agreement` of Statements.antt
--- says so with no fuel.)
+-- all steps from a place on. (An annotation takes at least one byte, so the fuel is enough; `Agreement` of
+-- annotations_statements says the same without fuel.)
 unfoldable pub rest : List ℕ → ℕ → Run
 rest s at = runFrom s (suc (length s - at)) at
 
@@ -43,12 +44,15 @@ entriesEach = 3
 abbrev pub tripleEntries : Triple → List ℤ
 tripleEntries t = pos (t .opcode) ∷ t .first ∷ t .second ∷ []
 
-abbrev pub entry : Found → List ℤ
-entry x = tripleEntries (x .triple)
+abbrev pub entriesOf : Found → List ℤ
+entriesOf x = tripleEntries (x .triple)
 
 unfoldable pub entries : List Found → List ℤ
 entries [] = []
-entries (x ∷ rest) = entry x ++ entries rest
+entries (x ∷ later) = entriesOf x ++ entries later
+
+abbrev pub decodedEntries : List ℕ → List ℤ
+decodedEntries s = entries (decodeAll s .found)
 
 -- how many annotations, or the first refusal with its place
 abbrev pub counted : Run → Outcome Stop ℕ
@@ -59,8 +63,8 @@ pub record DecodeStop : Type 0 where
   pub refusal : paper.Refusal
   pub place : Option ℕ
 
-abbrev pub placed : Stop → DecodeStop
-placed x = record { refusal = x .refusal; place = some (x .place) }
+abbrev pub withPlace : Stop → DecodeStop
+withPlace x = record { refusal = x .refusal; place = some (x .place) }
 
 abbrev pub noRoom : ℕ → DecodeStop
 noRoom needed = record { refusal = record { number = 10; value = needed }; place = none }
@@ -68,6 +72,6 @@ noRoom needed = record { refusal = record { number = 10; value = needed }; place
 -- decoding all into a store of `room` entries: how many annotations. 10 comes last
 unfoldable pub decoding : List ℕ → ℕ → Outcome DecodeStop ℕ
 decoding s room = do
-  n ← raise placed (counted (decodeAll s))
+  n ← raise withPlace (counted (decodeAll s))
   require (leb (entriesEach * n) room) (noRoom (entriesEach * n))
   ok n

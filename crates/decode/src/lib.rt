@@ -4,39 +4,55 @@ use annotations::Step;
 use annotations::Triple;
 use annotations::step_at;
 use annotations::wide;
+use numbers::PlacedRefusal;
 use numbers::Refusal;
 ghost use mathlib.Core.Path.{_≡_};
 ghost use Prim.Native.Nat.{_+_, _≤_};
 ghost use lib.ListN.{length};
 ghost use lib.Seq.{sets};
-ghost use Rattle.decode.specs.Decode.{tripleEntries, entries, decodeAll};
-ghost use Rattle.decode.specs.Inner.{Counting, CountHandedUp};
+ghost use Rattle.decode.specs.Decode.{entriesEach, tripleEntries, decodedEntries};
+ghost use Rattle.decode.specs.Inner.{CountingAll, whyCountedAll};
 ghost use Rattle.decode.specs.Promises.{Decoding};
 
-// Entries of the store an annotation.
-const ENTRIES: usize = 3;
+// How many entries of the store an annotation takes.
+pub const ENTRIES_EACH: usize = 3;
 
 pub enum Decoded {
     // How many annotations there are.
     Count(usize),
-    Refused(Refusal, usize),
+    Refused(PlacedRefusal),
     // 10: the entries needed.
     NoRoom(usize),
 }
 
-pub(crate) enum Counted {
+pub(crate) enum CountedAll {
     All(usize),
-    Refused(Refusal, usize),
+    Refused(PlacedRefusal),
+}
+
+impl CountedAll {
+    // The refusal, for a caller that knows that there is one.
+    fn why(self) -> PlacedRefusal
+        ensures { λ r. ⌜ r ≡ whyCountedAll self ⌝ }
+    {
+        match self {
+            CountedAll::Refused(why) => why,
+            CountedAll::All(_) => PlacedRefusal {
+                refusal: Refusal::ShortData,
+                place: 0,
+            },
+        }
+    }
 }
 
 pub fn decode_all(bytes: &[u8], store: &mut [i64]) -> Decoded
     ensures { λ r. ⌜ Decoding (now (bytes .entry)) (now (store .entry)) r (now (store .exit)) ⌝ }
 {
     let c = count_all(bytes);
-    let Counted::All(n) = c else {
-        return up(c);
+    let CountedAll::All(n) = c else {
+        return Decoded::Refused(c.why());
     };
-    let needed = ENTRIES * n;
+    let needed = ENTRIES_EACH * n;
     if store.len() < needed {
         return Decoded::NoRoom(needed);
     }
@@ -45,8 +61,8 @@ pub fn decode_all(bytes: &[u8], store: &mut [i64]) -> Decoded
 }
 
 // How many annotations there are before the end, or the first refusal.
-fn count_all(bytes: &[u8]) -> Counted
-    ensures { λ r. ⌜ Counting (now (bytes .entry)) r ⌝ }
+fn count_all(bytes: &[u8]) -> CountedAll
+    ensures { λ r. ⌜ CountingAll (now (bytes .entry)) r ⌝ }
 {
     let mut at: usize = 0;
     let mut n: usize = 0;
@@ -58,19 +74,19 @@ fn count_all(bytes: &[u8]) -> Counted
                 n += 1;
             }
             Step::End(_) => {
-                return Counted::All(n);
+                return CountedAll::All(n);
             }
-            Step::Refused(why, place) => {
-                return Counted::Refused(why, place);
+            Step::Refused(why) => {
+                return CountedAll::Refused(why);
             }
         }
     }
 }
 
-// The entries of all annotations, from the front; the caller has seen that they fit.
+// Writes the entries of all annotations, from the front. The caller guarantees room for them.
 fn write_all(bytes: &[u8], store: &mut [i64])
-    requires { ⌜ length (entries (decodeAll (now bytes) .found)) ≤ length (now store) ⌝ }
-    ensures { λ r. ⌜ now (store .exit) ≡ sets (now (store .entry)) 0 (entries (decodeAll (now (bytes .entry)) .found)) ⌝ }
+    requires { ⌜ length (decodedEntries (now bytes)) ≤ length (now store) ⌝ }
+    ensures { λ r. ⌜ now (store .exit) ≡ sets (now (store .entry)) 0 (decodedEntries (now (bytes .entry))) ⌝ }
 {
     let mut at: usize = 0;
     let mut i: usize = 0;
@@ -81,12 +97,12 @@ fn write_all(bytes: &[u8], store: &mut [i64])
                 let annotation = a.annotation;
                 put(store, i, annotation.triple());
                 at = a.next;
-                i += ENTRIES;
+                i += ENTRIES_EACH;
             }
             Step::End(_) => {
                 return;
             }
-            Step::Refused(_, _) => {
+            Step::Refused(_) => {
                 return;
             }
         }
@@ -94,7 +110,7 @@ fn write_all(bytes: &[u8], store: &mut [i64])
 }
 
 fn put(store: &mut [i64], at: usize, t: Triple)
-    requires { ⌜ at + 3 ≤ length (now store) ⌝ }
+    requires { ⌜ at + entriesEach ≤ length (now store) ⌝ }
     ensures { λ r. ⌜ now (store .exit) ≡ sets (now (store .entry)) at (tripleEntries t) ⌝ }
 {
     let opcode = wide(t.opcode);
@@ -103,14 +119,4 @@ fn put(store: &mut [i64], at: usize, t: Triple)
     store[at] = opcode;
     store[at + 1] = first;
     store[at + 2] = second;
-}
-
-// The count's refusal as the answer's, handed up unchanged.
-fn up(c: Counted) -> Decoded
-    ensures { λ r. ⌜ CountHandedUp c r ⌝ }
-{
-    match c {
-        Counted::Refused(why, place) => Decoded::Refused(why, place),
-        Counted::All(n) => Decoded::Count(n),
-    }
 }

@@ -10,10 +10,14 @@ use Rattle.numbers.specs.Number.{numberAt}
 use Rattle.numbers.specs.Inner.{Byte}
 use Rattle.numbers.specs.Promises.{uncompressedIn, Uncompressing}
 use Rattle.numbers.specs.declared.refusal.Refusal.the-variants.{ShortData, InvalidCompressedAnnotation}
+use Rattle.numbers.specs.declared.refusal.PlacedRefusal.{PlacedRefusal}
 use Rattle.numbers.specs.declared.number.Uncompressed.the-variants.{Value, Refused}
 
+abbrev short : List ℕ → PlacedRefusal
+short s = record { refusal = ShortData; place = length s }
+
 module _ (s : List ℕ) (at : ℕ) where
-  pub none : length s ≤ at → Uncompressing s at (Refused ShortData (length s))
+  pub none : length s ≤ at → Uncompressing s at (Refused (short s))
   unfolding numberAt uncompressedIn
   none h = record { answer = simp (lt-leb (at + 1) (length s) (omega arith)) }
 
@@ -24,7 +28,7 @@ module _ (s : List ℕ) (at : ℕ) where
         record { answer = rw (i .is) (simp (le-leb (at + 1) (length s) (omega arith), lt-ltb (getD s at 0) 0x80 (omega (arith, i .is)))) }
 
     module _ (k : 0x80 ≤ b1) (m : b1 < 0xc0) where
-      pub short-2 : length s - at < 2 → Uncompressing s at (Refused ShortData (length s))
+      pub short-2 : length s - at < 2 → Uncompressing s at (Refused (short s))
       unfolding numberAt uncompressedIn
       short-2 l =
           record { answer = simp (le-leb (at + 1) (length s) (omega arith), lt-leb (at + 2) (length s) (omega arith), le-ltb (getD s at 0) 0x80 (omega (arith, i .is)), lt-ltb (getD s at 0) 0xc0 (omega (arith, i .is))) }
@@ -35,7 +39,7 @@ module _ (s : List ℕ) (at : ℕ) where
           record { answer = rw (e, i .is, i2 .is) (simp (le-leb (at + 1) (length s) (omega arith), le-leb (at + 2) (length s) (omega arith), le-ltb (getD s at 0) 0x80 (omega (arith, i .is)), lt-ltb (getD s at 0) 0xc0 (omega (arith, i .is)))) }
 
     module _ (k : 0xc0 ≤ b1) where
-      pub short-4 : length s - at < 4 → Uncompressing s at (Refused ShortData (length s))
+      pub short-4 : length s - at < 4 → Uncompressing s at (Refused (short s))
       unfolding numberAt uncompressedIn
       short-4 l =
           record { answer = simp (le-leb (at + 1) (length s) (omega arith), lt-leb (at + 4) (length s) (omega arith), le-ltb (getD s at 0) 0x80 (omega (arith, i .is)), le-ltb (getD s at 0) 0xc0 (omega (arith, i .is))) }
@@ -46,7 +50,7 @@ module _ (s : List ℕ) (at : ℕ) where
         four m i2 i3 i4 e =
             record { answer = rw (e, i .is, i2 .is, i3 .is, i4 .is) (simp (le-leb (at + 1) (length s) (omega arith), le-leb (at + 4) (length s) (omega arith), le-ltb (getD s at 0) 0x80 (omega (arith, i .is)), le-ltb (getD s at 0) 0xc0 (omega (arith, i .is)), lt-ltb (getD s at 0) 0xe0 (omega (arith, i .is)))) }
 
-        pub invalid : 0xe0 ≤ b1 → Uncompressing s at (Refused InvalidCompressedAnnotation (at + 4))
+        pub invalid : 0xe0 ≤ b1 → Uncompressing s at (Refused (record { refusal = InvalidCompressedAnnotation; place = at + 4 }))
         unfolding numberAt uncompressedIn
         invalid m =
             record { answer = simp (le-leb (at + 1) (length s) (omega arith), le-leb (at + 4) (length s) (omega arith), le-ltb (getD s at 0) 0x80 (omega (arith, i .is)), le-ltb (getD s at 0) 0xc0 (omega (arith, i .is)), le-ltb (getD s at 0) 0xe0 (omega (arith, i .is))) }

@@ -1,7 +1,8 @@
--- Document 01, "Refusal numbers", 7 to 9: what each refusal of the code is on paper, and a refusal with the place after it.
+-- Document 01, "Refusal numbers", 7 to 9: what each refusal of the code is on paper, alone and with its place.
 use Prim.Native.Nat.{ℕ}
 use Rattle.outcome.specs.Refusal as paper
 use Rattle.numbers.specs.declared.refusal.Refusal.{Refusal}
+use Rattle.numbers.specs.declared.refusal.PlacedRefusal.{PlacedRefusal}
 use Rattle.numbers.specs.declared.refusal.Refusal.the-variants.{ShortData, InvalidCompressedAnnotation, UnknownBinaryAnnotation}
 
 abbrev pub refusalIn : Refusal → paper.Refusal
@@ -16,3 +17,6 @@ pub record Stop : Type 0 where
 
 abbrev pub stop : Refusal → ℕ → Stop
 stop why place = record { refusal = refusalIn why; place = place }
+
+abbrev pub stopIn : PlacedRefusal → Stop
+stopIn why = stop (why .refusal) (why .place)

@@ -7,4 +7,5 @@ mod refusal;
 pub use number::Number;
 pub use number::Uncompressed;
 pub use number::uncompress_next;
+pub use refusal::PlacedRefusal;
 pub use refusal::Refusal;

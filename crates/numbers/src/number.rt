@@ -1,10 +1,11 @@
 // The compressed number of binary annotations, at most 0x1fffffff, in one, two or four bytes: `CVUncompressData`, with
 // the lengths checked. The Rust's `uncompress_next`.
+use crate::refusal::PlacedRefusal;
 use crate::refusal::Refusal;
 ghost use mathlib.Core.Path.{_≡_};
 ghost use Prim.Native.Nat.{_+_, _*_, _%_, _^_, _<_};
 ghost use lib.ListN.{length};
-ghost use Rattle.numbers.specs.Inner.{Byte};
+ghost use Rattle.numbers.specs.Inner.{Byte, whyUncompressed};
 ghost use Rattle.numbers.specs.Promises.{Uncompressing};
 
 // A number that was read, and the place after it.
@@ -13,18 +14,37 @@ pub struct Number {
     pub next: usize,
 }
 
-// The number at a place, or why there is none and the place after that.
+// The number at a place, or why there is none.
 pub enum Uncompressed {
     Value(Number),
-    Refused(Refusal, usize),
+    Refused(PlacedRefusal),
+}
+
+impl Uncompressed {
+    // The refusal, for a caller that knows that there is one.
+    pub fn why(self) -> PlacedRefusal
+        ensures { λ r. ⌜ r ≡ whyUncompressed self ⌝ }
+    {
+        match self {
+            Uncompressed::Refused(why) => why,
+            Uncompressed::Value(_) => PlacedRefusal {
+                refusal: Refusal::ShortData,
+                place: 0,
+            },
+        }
+    }
 }
 
 pub fn uncompress_next(bytes: &[u8], at: usize) -> Uncompressed
     ensures { λ r. ⌜ Uncompressing (now (bytes .entry)) at r ⌝ }
 {
     let n = bytes.len();
+    let short = PlacedRefusal {
+        refusal: Refusal::ShortData,
+        place: n,
+    };
     if n <= at {
-        return Uncompressed::Refused(Refusal::ShortData, n);
+        return Uncompressed::Refused(short);
     }
     let left = n - at;
     let b1 = byte_at(bytes, at);
@@ -34,7 +54,7 @@ pub fn uncompress_next(bytes: &[u8], at: usize) -> Uncompressed
     }
     if b1 < 0xc0 {
         if left < 2 {
-            return Uncompressed::Refused(Refusal::ShortData, n);
+            return Uncompressed::Refused(short);
         }
         let next = at + 2;
         let value = two_bytes(b1, byte_at(bytes, at + 1));
@@ -42,7 +62,7 @@ pub fn uncompress_next(bytes: &[u8], at: usize) -> Uncompressed
     }
     // Four bytes are read before the first is judged, so 7 comes before 8.
     if left < 4 {
-        return Uncompressed::Refused(Refusal::ShortData, n);
+        return Uncompressed::Refused(short);
     }
     let next = at + 4;
     if b1 < 0xe0 {
@@ -52,7 +72,10 @@ pub fn uncompress_next(bytes: &[u8], at: usize) -> Uncompressed
         let value = four_bytes(b1, b2, b3, b4);
         return Uncompressed::Value(Number { value, next });
     }
-    Uncompressed::Refused(Refusal::InvalidCompressedAnnotation, next)
+    Uncompressed::Refused(PlacedRefusal {
+        refusal: Refusal::InvalidCompressedAnnotation,
+        place: next,
+    })
 }
 
 // The byte at a place, wide: one call gives the value and its bound.

@@ -1,5 +1,4 @@
-// Why a number or a step is refused: document 01's 7, 8 and 9. `number` and `value` give the paper's numbers, and only
-// they go by every case.
+// Why a number or a step is refused: document 01's refusals 7, 8 and 9.
 ghost use mathlib.Core.Path.{_≡_};
 ghost use Rattle.numbers.specs.Refusal.{refusalIn};
 
@@ -12,7 +11,14 @@ pub enum Refusal {
     UnknownBinaryAnnotation(u32),
 }
 
+// A refusal, and the place after it.
+pub struct PlacedRefusal {
+    pub refusal: Refusal,
+    pub place: usize,
+}
+
 impl Refusal {
+    // Its number in document 01's table.
     pub fn number(self) -> u32
         ensures { λ r. ⌜ r ≡ refusalIn self .number ⌝ }
     {
@@ -23,6 +29,7 @@ impl Refusal {
         }
     }
 
+    // Its value in that table.
     pub fn value(self) -> u64
         ensures { λ r. ⌜ r ≡ refusalIn self .value ⌝ }
     {

@@ -38,7 +38,9 @@ step-ends s at =
     by-test P (leb (length s) at) (λ _. ended)
     (λ _. after-number (numberAt s at) _ λ code.
     by-test P (eqb (code .value) 0) (λ _. ended)
-    (λ _. after-test (leb (code .value) 13) _ (after-number (numberAt s (code .next)) _ λ v. after-number _ _ λ w. found)))
+    (λ _. after-test (leb (code .value) 13) _
+    (after-number (numberAt s (code .next)) _ λ v.
+    by-test P (eqb (code .value) 12) (λ _. after-number (numberAt s (v .next)) _ λ w. found) (λ _. found))))
 
 pub end-place : (s : List ℕ) (at : ℕ) {place : ℕ} → stepAt s at ≡ ok (end place) → place ≡ length s
 end-place s at {place} e = go _ (subst (EndsAt s) e (step-ends s at)) refl

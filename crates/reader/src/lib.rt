@@ -56,7 +56,7 @@ fn place_after(step: Step) -> usize
     match step {
         Step::Annotation(a) => a.next,
         Step::End(place) => place,
-        Step::Refused(_, place) => place,
+        Step::Refused(why) => why.place,
     }
 }
 

@@ -2,7 +2,7 @@
 // forms, and all of the bytes decoded into stores of several rooms. Each answer begins with the number of its case.
 use annotations::Step;
 use decode::Decoded;
-use numbers::Refusal;
+use numbers::PlacedRefusal;
 use numbers::Uncompressed;
 use replay::Digest;
 
@@ -45,7 +45,7 @@ pub fn answer(d: Digest, q: Question, bytes: &[u8], store: &mut [i64]) -> Digest
 fn number(d: Digest, bytes: &[u8], at: usize) -> Digest {
     match numbers::uncompress_next(bytes, at) {
         Uncompressed::Value(n) => d.plain(NUMBER).plain(n.value as u64).plain(n.next as u64),
-        Uncompressed::Refused(why, place) => refused(d, NUMBER_REFUSED, why, place),
+        Uncompressed::Refused(why) => refused(d, NUMBER_REFUSED, why),
     }
 }
 
@@ -88,10 +88,10 @@ fn step(walk: Walk, bytes: &[u8]) -> Walk {
     let at = match step {
         Step::Annotation(a) => a.next,
         Step::End(place) => place,
-        Step::Refused(_, place) => place,
+        Step::Refused(why) => why.place,
     };
     Walk {
-        digest: told(walk.digest, step),
+        digest: with_step(walk.digest, step),
         at,
         ended: is_end(step),
     }
@@ -105,13 +105,13 @@ fn next(walk: Walk, bytes: &[u8]) -> Walk {
     let moved = reader::next_at(bytes, walk.at);
     let step = moved.step;
     Walk {
-        digest: told(walk.digest, step),
+        digest: with_step(walk.digest, step),
         at: moved.place,
         ended: is_end(step),
     }
 }
 
-fn told(d: Digest, step: Step) -> Digest {
+fn with_step(d: Digest, step: Step) -> Digest {
     match step {
         Step::Annotation(a) => {
             let annotation = a.annotation;
@@ -121,7 +121,7 @@ fn told(d: Digest, step: Step) -> Digest {
             placed.plain(flag(annotation.emits_line_info()))
         }
         Step::End(place) => d.plain(END).plain(place as u64),
-        Step::Refused(why, place) => refused(d, STEP_REFUSED, why, place),
+        Step::Refused(why) => refused(d, STEP_REFUSED, why),
     }
 }
 
@@ -158,10 +158,10 @@ fn decoded(d: Digest, bytes: &[u8], store: &mut [i64]) -> Digest {
     clear(store);
     let answered = match decode::decode_all(bytes, store) {
         Decoded::Count(n) => d.plain(ALL_DECODED).plain(n as u64),
-        Decoded::Refused(why, place) => refused(d, ALL_REFUSED, why, place),
+        Decoded::Refused(why) => refused(d, ALL_REFUSED, why),
         Decoded::NoRoom(needed) => d.plain(NO_ROOM).plain(NO_ROOM_REFUSAL).plain(needed as u64),
     };
-    entries(answered, store)
+    whole_store(answered, store)
 }
 
 // Puts a number of its own at each entry, that no annotation has.
@@ -175,7 +175,7 @@ fn untouched(i: usize) -> i64 {
     -1000 - (i % 65536) as i64
 }
 
-fn entries(d: Digest, store: &[i64]) -> Digest {
+fn whole_store(d: Digest, store: &[i64]) -> Digest {
     let mut digest = d;
     for i in 0..store.len() {
         digest = digest.signed(store[i]);
@@ -183,9 +183,10 @@ fn entries(d: Digest, store: &[i64]) -> Digest {
     digest
 }
 
-fn refused(d: Digest, case: u64, why: Refusal, place: usize) -> Digest {
+fn refused(d: Digest, case: u64, why: PlacedRefusal) -> Digest {
+    let refusal = why.refusal;
     d.plain(case)
-        .plain(why.number() as u64)
-        .plain(why.value())
-        .plain(place as u64)
+        .plain(refusal.number() as u64)
+        .plain(refusal.value())
+        .plain(why.place as u64)
 }

@@ -1,18 +1,17 @@
 -- The answers about binary annotations as they cross: one law for each kind of answer.
 use mathlib.Core.Path.{_≡_, sym, _∙_, ap}
 use mathlib.Core.List.{List}
-use mathlib.Core.Option.{some}
 use Prim.Native.Nat.{ℕ}
 use lib.IntN.{ℤ, pos}
 use Rattle.outcome.specs.Outcome.{ok, refused, raise}
-use Rattle.numbers.specs.Refusal.{stop, refusalIn}
+use Rattle.numbers.specs.Refusal.{stopIn, refusalIn}
 use Rattle.annotations.specs.Annotation.{tripleIn}
 use Rattle.annotations.specs.Step.{annotation, end}
-use Rattle.decode.specs.Decode.{DecodeStop, noRoom}
+use Rattle.decode.specs.Decode.{withPlace, noRoom}
 use Rattle.numbers.specs.Promises.{uncompressedIn, Uncompressing}
 use Rattle.annotations.specs.Promises.{stepIn, Stepping}
 use Rattle.decode.specs.Promises.{decodedIn, Decoding}
-use Rattle.numbers.specs.declared.refusal.Refusal.{Refusal}
+use Rattle.numbers.specs.declared.refusal.PlacedRefusal.{PlacedRefusal}
 use Rattle.annotations.specs.declared.annotation.Triple.{Triple}
 use Rattle.numbers.specs.declared.number.Number.{Number}
 use Rattle.numbers.specs.declared.number.Uncompressed.{Uncompressed}
@@ -33,10 +32,10 @@ module _ {s : List ℕ} {at : ℕ} {r : Uncompressed} (p : Uncompressing s at r)
       let k : _ ≡ ok n = sym (p .answer) ∙ ap uncompressedIn e in
       record { answer = record { number = rw k; value = rw k }; next-told = rw k }
 
-  pub numbers-refused : {why : Refusal} {place n v : ℕ} → r ≡ uncompressed.Refused why place → n ≡ refusalIn why .number → v ≡ refusalIn why .value → Numbers s at n v place
+  pub numbers-refused : {why : PlacedRefusal} {n v : ℕ} → r ≡ uncompressed.Refused why → n ≡ refusalIn (why .refusal) .number → v ≡ refusalIn (why .refusal) .value → Numbers s at n v (why .place)
   unfolding told raise uncompressedIn
-  numbers-refused {why} {place} e n v =
-      let k : _ ≡ refused (stop why place) = sym (p .answer) ∙ ap uncompressedIn e in
+  numbers-refused {why} e n v =
+      let k : _ ≡ refused (stopIn why) = sym (p .answer) ∙ ap uncompressedIn e in
       record { answer = record { number = rw k n; value = rw k v }; next-told = rw k }
 
 pub ruleset number-cases = (numbers-value, numbers-refused)
@@ -55,10 +54,10 @@ module _ {s : List ℕ} {at : ℕ} {r : Step} (p : Stepping s at r) where
       let k : _ ≡ ok (end place) = sym (p .answer) ∙ ap stepIn e in
       record { answer = record { number = rw k; value = rw k }; first-told = rw k; second-told = rw k; next-told = rw k }
 
-  pub steps-refused : {why : Refusal} {place n v : ℕ} → r ≡ step.Refused why place → n ≡ refusalIn why .number → v ≡ refusalIn why .value → Steps s at n v (pos 0) (pos 0) place
+  pub steps-refused : {why : PlacedRefusal} {n v : ℕ} → r ≡ step.Refused why → n ≡ refusalIn (why .refusal) .number → v ≡ refusalIn (why .refusal) .value → Steps s at n v (pos 0) (pos 0) (why .place)
   unfolding told raise stepIn
-  steps-refused {why} {place} e n v =
-      let k : _ ≡ refused (stop why place) = sym (p .answer) ∙ ap stepIn e in
+  steps-refused {why} e n v =
+      let k : _ ≡ refused (stopIn why) = sym (p .answer) ∙ ap stepIn e in
       record { answer = record { number = rw k n; value = rw k v }; first-told = rw k; second-told = rw k; next-told = rw k }
 
 pub ruleset step-cases = (steps-annotation, steps-end, steps-refused)
@@ -71,11 +70,10 @@ module _ {s : List ℕ} {store store′ : List ℤ} {r : Decoded} (p : Decoding 
       let k : _ ≡ ok n = sym (p .answer) ∙ ap decodedIn e in
       record { answer = record { number = rw k; value = rw k }; place-told = rw k; after = p .after }
 
-  pub decodes-refused : {why : Refusal} {place n v : ℕ} → r ≡ decoded.Refused why place → n ≡ refusalIn why .number → v ≡ refusalIn why .value → Decodes s store n v place store′
+  pub decodes-refused : {why : PlacedRefusal} {n v : ℕ} → r ≡ decoded.Refused why → n ≡ refusalIn (why .refusal) .number → v ≡ refusalIn (why .refusal) .value → Decodes s store n v (why .place) store′
   unfolding told raise decodedIn placeOr0
-  decodes-refused {why} {place} e n v =
-      let w : DecodeStop = record { refusal = refusalIn why; place = some place } in
-      let k : _ ≡ refused w = sym (p .answer) ∙ ap decodedIn e in
+  decodes-refused {why} e n v =
+      let k : _ ≡ refused (withPlace (stopIn why)) = sym (p .answer) ∙ ap decodedIn e in
       record { answer = record { number = rw k n; value = rw k v }; place-told = rw k; after = p .after }
 
   pub decodes-no-room : {needed : ℕ} → r ≡ decoded.NoRoom needed → Decodes s store 10 needed 0 store′

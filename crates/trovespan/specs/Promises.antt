@@ -4,21 +4,22 @@ use mathlib.Core.List.{List, map}
 use Prim.Native.Nat.{ℕ, min}
 use lib.ListN.{length}
 use lib.IntN.{ℤ, pos}
-use Rattle.outcome.specs.Outcome.{raise}
+use Rattle.outcome.specs.Outcome.{Outcome, raise}
+use Rattle.outcome.specs.Refusal as paper
 use Rattle.outcome.specs.Store.{written}
 use Rattle.parse_buffer.specs.Bytes.{File}
 use Rattle.header.specs.Promises.{opening}
 use Rattle.header.specs.declared.Container.{Container}
 use Rattle.directory.specs.Directory.{streamCount}
 use Rattle.slices.specs.declared.SourceSlice.{SourceSlice}
-use Rattle.msf.specs.Msf.{slicesIn, bytesIn, mapping, extraction}
+use Rattle.msf.specs.Msf.{Placed, slicesIn, bytesIn, mapping, extraction}
 use Rattle.msf.specs.Promises.{mapped, lengthIn}
 use Rattle.msf.specs.declared.limit.Limit.{Limit}
 use Rattle.msf.specs.declared.to_slices.Mapped.{Mapped}
 use Rattle.numbers.specs.Refusal.{Stop}
 use Rattle.numbers.specs.Number.{numberAt}
-use Rattle.annotations.specs.Step.{stepAt}
-use Rattle.decode.specs.Decode.{DecodeStop, entries, decodeAll, decoding}
+use Rattle.annotations.specs.Step.{Stepped, stepAt}
+use Rattle.decode.specs.Decode.{DecodeStop, decodedEntries, decoding}
 use Rattle.numbers.specs.declared.number.Number.{Number}
 use Rattle.trovespan.specs.Crossing.{told, Tells, opcodeOf, firstOf, secondOf, nextOf, placeOr0}
 
@@ -30,11 +31,17 @@ pub record Opens (f : File) (len r value used : ℕ) : Type 0 where
 pub record Counts (f : File) (len r value : ℕ) : Type 0 where
   pub answer : Tells (streamCount f len) (λ n. n) r value
 
-pub record Maps (f : File) (len k : ℕ) (limit : Limit) (offsets sizes : List ℕ) (r value total : ℕ) (offsets′ sizes′ : List ℕ) : Type 0 where
-  pub answer : Tells (mapped f (mapping f len k limit (min (length offsets) (length sizes)))) (λ (m : Mapped). m .slices) r value
-  pub length-told : total ≡ told (λ (m : Mapped). m .length) (λ _. 0) (mapped f (mapping f len k limit (min (length offsets) (length sizes))))
-  pub offsets-after : offsets′ ≡ written (mapping f len k limit (min (length offsets) (length sizes))) (λ x. map (λ (s : SourceSlice). s .offset) (slicesIn f x)) offsets
-  pub sizes-after : sizes′ ≡ written (mapping f len k limit (min (length offsets) (length sizes))) (λ x. map (λ (s : SourceSlice). s .size) (slicesIn f x)) sizes
+-- (of what mapping answers on paper)
+pub record MapsOf (f : File) (o : Outcome paper.Refusal Placed) (offsets sizes : List ℕ)
+    (r value total : ℕ) (offsets′ sizes′ : List ℕ) : Type 0 where
+  pub answer : Tells (mapped f o) (λ (m : Mapped). m .slices) r value
+  pub length-told : total ≡ told (λ (m : Mapped). m .length) (λ _. 0) (mapped f o)
+  pub offsets-after : offsets′ ≡ written o (λ x. map (λ (s : SourceSlice). s .offset) (slicesIn f x)) offsets
+  pub sizes-after : sizes′ ≡ written o (λ x. map (λ (s : SourceSlice). s .size) (slicesIn f x)) sizes
+
+abbrev pub Maps : File → ℕ → ℕ → Limit → List ℕ → List ℕ → ℕ → ℕ → ℕ → List ℕ → List ℕ → Type 0
+Maps f len k limit offsets sizes =
+    MapsOf f (mapping f len k limit (min (length offsets) (length sizes))) offsets sizes
 
 pub record Extracts (f : File) (len k : ℕ) (limit : Limit) (out : List ℕ) (r value : ℕ) (out′ : List ℕ) : Type 0 where
   pub answer : Tells (lengthIn (extraction f len k limit (length out))) (λ n. n) r value
@@ -45,13 +52,22 @@ pub record Numbers (s : List ℕ) (at r value next : ℕ) : Type 0 where
   pub answer : Tells (raise (λ (x : Stop). x .refusal) (numberAt s at)) (λ (n : Number). n .value) r value
   pub next-told : next ≡ told (λ (n : Number). n .next) (λ (x : Stop). x .place) (numberAt s at)
 
-pub record Steps (s : List ℕ) (at r value : ℕ) (first second : ℤ) (next : ℕ) : Type 0 where
-  pub answer : Tells (raise (λ (x : Stop). x .refusal) (stepAt s at)) opcodeOf r value
-  pub first-told : first ≡ told firstOf (λ (_ : Stop). pos 0) (stepAt s at)
-  pub second-told : second ≡ told secondOf (λ (_ : Stop). pos 0) (stepAt s at)
-  pub next-told : next ≡ told nextOf (λ (x : Stop). x .place) (stepAt s at)
+-- (of what a step answers on paper)
+pub record StepsOf (o : Outcome Stop Stepped) (r value : ℕ) (first second : ℤ) (next : ℕ) : Type 0 where
+  pub answer : Tells (raise (λ (x : Stop). x .refusal) o) opcodeOf r value
+  pub first-told : first ≡ told firstOf (λ (_ : Stop). pos 0) o
+  pub second-told : second ≡ told secondOf (λ (_ : Stop). pos 0) o
+  pub next-told : next ≡ told nextOf (λ (x : Stop). x .place) o
 
-pub record Decodes (s : List ℕ) (store : List ℤ) (r value place : ℕ) (store′ : List ℤ) : Type 0 where
-  pub answer : Tells (raise (λ (x : DecodeStop). x .refusal) (decoding s (length store))) (λ n. n) r value
-  pub place-told : place ≡ told (λ _. 0) (λ (x : DecodeStop). placeOr0 (x .place)) (decoding s (length store))
-  pub after : store′ ≡ written (decoding s (length store)) (λ _. entries (decodeAll s .found)) store
+abbrev pub Steps : List ℕ → ℕ → ℕ → ℕ → ℤ → ℤ → ℕ → Type 0
+Steps s at = StepsOf (stepAt s at)
+
+-- (of what decoding all answers on paper)
+pub record DecodesOf (s : List ℕ) (o : Outcome DecodeStop ℕ) (store : List ℤ)
+    (r value place : ℕ) (store′ : List ℤ) : Type 0 where
+  pub answer : Tells (raise (λ (x : DecodeStop). x .refusal) o) (λ n. n) r value
+  pub place-told : place ≡ told (λ _. 0) (λ (x : DecodeStop). placeOr0 (x .place)) o
+  pub after : store′ ≡ written o (λ _. decodedEntries s) store
+
+abbrev pub Decodes : List ℕ → List ℤ → ℕ → ℕ → ℕ → List ℤ → Type 0
+Decodes s store = DecodesOf s (decoding s (length store)) store

@@ -17,11 +17,14 @@ use Rattle.trovespan.specs.Promises.{Opens, Counts, Maps, Extracts, Numb
 pub record SingleValued : Type 0 where
   pub opening : (f : File) (len : ℕ) → Only (λ (o : ℕ × ℕ × ℕ). Opens f len (o .0) (o .1) (o .2))
   pub stream-count : (f : File) (len : ℕ) → Only (λ (o : ℕ × ℕ). Counts f len (o .0) (o .1))
-  pub map : (f : File) (len k : ℕ) (limit : Limit) (offsets sizes : List ℕ) → Only (λ (o : ℕ × ℕ × ℕ × List ℕ × List ℕ). Maps f len k limit offsets sizes (o .0) (o .1) (o .2) (o .3) (o .4))
-  pub extract : (f : File) (len k : ℕ) (limit : Limit) (out : List ℕ) → Only (λ (o : ℕ × ℕ × List ℕ). Extracts f len k limit out (o .0) (o .1) (o .2))
+  pub map : (f : File) (len k : ℕ) (limit : Limit) (offsets sizes : List ℕ)
+      → Only (λ (o : ℕ × ℕ × ℕ × List ℕ × List ℕ). Maps f len k limit offsets sizes (o .0) (o .1) (o .2) (o .3) (o .4))
+  pub extract : (f : File) (len k : ℕ) (limit : Limit) (out : List ℕ)
+      → Only (λ (o : ℕ × ℕ × List ℕ). Extracts f len k limit out (o .0) (o .1) (o .2))
   pub number : (s : List ℕ) (at : ℕ) → Only (λ (o : ℕ × ℕ × ℕ). Numbers s at (o .0) (o .1) (o .2))
   pub step : (s : List ℕ) (at : ℕ) → Only (λ (o : ℕ × ℕ × ℤ × ℤ × ℕ). Steps s at (o .0) (o .1) (o .2) (o .3) (o .4))
-  pub decode : (s : List ℕ) (store : List ℤ) → Only (λ (o : ℕ × ℕ × ℕ × List ℤ). Decodes s store (o .0) (o .1) (o .2) (o .3))
+  pub decode : (s : List ℕ) (store : List ℤ)
+      → Only (λ (o : ℕ × ℕ × ℕ × List ℤ). Decodes s store (o .0) (o .1) (o .2) (o .3))
 
 -- not 0, which says that nothing is refused or, of an opcode, that the end is reached
 abbrev pub NotZero : ℕ → Type 0

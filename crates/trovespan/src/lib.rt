@@ -32,7 +32,9 @@ const NO_ROOM: u32 = 10;
 // `value` is P, `used` is pages_used.
 #[no_mangle]
 pub extern "C" fn trovespan_open(file: &[u8], value: &mut u64, used: &mut u64) -> u32
-    ensures { λ r. ⌜ Opens (byteAt (now (file .entry))) (length (now (file .entry))) r (now (value .exit)) (now (used .exit)) ⌝ }
+    ensures { λ r. ⌜
+        Opens (byteAt (now (file .entry))) (length (now (file .entry))) r (now (value .exit)) (now (used .exit))
+        ⌝ }
 {
     match msf::open(file) {
         Opened::Container(c) => {
@@ -77,7 +79,11 @@ pub extern "C" fn trovespan_map(
     value: &mut u64,
     total: &mut u64,
 ) -> u32
-    ensures { λ r. ⌜ Maps (byteAt (now (file .entry))) (length (now (file .entry))) stream (limitOf limited limit) (now (offsets .entry)) (now (sizes .entry)) r (now (value .exit)) (now (total .exit)) (now (offsets .exit)) (now (sizes .exit)) ⌝ }
+    ensures { λ r. ⌜
+        Maps (byteAt (now (file .entry))) (length (now (file .entry))) stream (limitOf limited limit)
+        (now (offsets .entry)) (now (sizes .entry)) r (now (value .exit)) (now (total .exit))
+        (now (offsets .exit)) (now (sizes .exit))
+        ⌝ }
 {
     match msf::map(
         file,
@@ -109,7 +115,10 @@ pub extern "C" fn trovespan_extract(
     out: &mut [u8],
     value: &mut u64,
 ) -> u32
-    ensures { λ r. ⌜ Extracts (byteAt (now (file .entry))) (length (now (file .entry))) stream (limitOf limited limit) (now (out .entry)) r (now (value .exit)) (now (out .exit)) ⌝ }
+    ensures { λ r. ⌜
+        Extracts (byteAt (now (file .entry))) (length (now (file .entry))) stream (limitOf limited limit)
+        (now (out .entry)) r (now (value .exit)) (now (out .exit))
+        ⌝ }
 {
     match msf::extract(file, StreamNumber(stream), limit_of(limited, limit), out) {
         Extracted::Length(n) => {
@@ -134,10 +143,11 @@ pub extern "C" fn trovespan_number(bytes: &[u8], at: usize, value: &mut u64, nex
             *next = n.next as u64;
             ACCEPTED
         }
-        Uncompressed::Refused(why, place) => {
-            *value = why.value();
-            *next = place as u64;
-            why.number()
+        Uncompressed::Refused(why) => {
+            let refusal = why.refusal;
+            *value = refusal.value();
+            *next = why.place as u64;
+            refusal.number()
         }
     }
 }
@@ -153,7 +163,9 @@ pub extern "C" fn trovespan_step(
     second: &mut i64,
     next: &mut u64,
 ) -> u32
-    ensures { λ r. ⌜ Steps (now (bytes .entry)) at r (now (value .exit)) (now (first .exit)) (now (second .exit)) (now (next .exit)) ⌝ }
+    ensures { λ r. ⌜
+        Steps (now (bytes .entry)) at r (now (value .exit)) (now (first .exit)) (now (second .exit)) (now (next .exit))
+        ⌝ }
 {
     match step_at(bytes, at) {
         Step::Annotation(a) => {
@@ -174,12 +186,13 @@ pub extern "C" fn trovespan_step(
             *next = place as u64;
             ACCEPTED
         }
-        Step::Refused(why, place) => {
-            *value = why.value();
+        Step::Refused(why) => {
+            let refusal = why.refusal;
+            *value = refusal.value();
             *first = 0;
             *second = 0;
-            *next = place as u64;
-            why.number()
+            *next = why.place as u64;
+            refusal.number()
         }
     }
 }
@@ -192,7 +205,9 @@ pub extern "C" fn trovespan_decode(
     value: &mut u64,
     place: &mut u64,
 ) -> u32
-    ensures { λ r. ⌜ Decodes (now (bytes .entry)) (now (store .entry)) r (now (value .exit)) (now (place .exit)) (now (store .exit)) ⌝ }
+    ensures { λ r. ⌜
+        Decodes (now (bytes .entry)) (now (store .entry)) r (now (value .exit)) (now (place .exit)) (now (store .exit))
+        ⌝ }
 {
     match decode_all(bytes, store) {
         Decoded::Count(n) => {
@@ -200,10 +215,11 @@ pub extern "C" fn trovespan_decode(
             *place = 0;
             ACCEPTED
         }
-        Decoded::Refused(why, after) => {
-            *value = why.value();
-            *place = after as u64;
-            why.number()
+        Decoded::Refused(why) => {
+            let refusal = why.refusal;
+            *value = refusal.value();
+            *place = why.place as u64;
+            refusal.number()
         }
         Decoded::NoRoom(needed) => {
             *value = needed as u64;

@@ -15,8 +15,8 @@ enum-known-c c = search needs
 enum-told : tie.Need-enum-told
 enum-told c = search needs
 
-up-requires : tie.Need-up-requires
-up-requires c κs = search needs
+why-requires : tie.Need-why-requires
+why-requires c κs = search needs
 
 returns : tie.Need-returns
 returns c = search decode-cases
@@ -43,7 +43,7 @@ decode-all-spec =
     count-all-requires
     enum-known-c
     enum-told
-    up-requires
+    why-requires
     returns
     mul-needed
     returns-2

@@ -1,8 +1,8 @@
--- `replay_annotations::ask::entries` is safe and ends. The measure is what is left of the length. Assumes nothing.
+-- `replay_annotations::ask::whole_store` is safe and ends. The measure is what is left of the length. Assumes nothing.
 use Prim.Native.Nat.{_≤_, _-_}
 use native.Mathlib.Omega.{arith}
-use Rattle.replay_annotations.proofs.ask.entries.Statement.{statement}
-use Rattle.replay_annotations.proofs.ask.entries.Tie as tie
+use Rattle.replay_annotations.proofs.ask.whole_store.Statement.{statement}
+use Rattle.replay_annotations.proofs.ask.whole_store.Tie as tie
 
 abbrev Inv-loop : tie.InvT-loop
 Inv-loop store digest₀ i₀ i-end digest i = i ≤ i-end
@@ -34,8 +34,8 @@ loop-again c = omega arith
 returns : tie.Need-returns Inv-loop μ-loop
 returns c = tt
 
-pub entries-spec : {M : Type 1} → statement M
-entries-spec =
+pub whole-store-spec : {M : Type 1} → statement M
+whole-store-spec =
     tie.close
     (tie.spec
     Inv-loop
