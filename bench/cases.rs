@@ -4,7 +4,7 @@ use std::cell::RefCell;
 use std::io::{self, Cursor};
 use std::rc::Rc;
 
-use trovespan::Step;
+use trovespan::{Step, ENTRIES_EACH};
 
 use super::inputs::{
     annotations, in_long_slices, in_single_pages, of_streams, LONGEST_STREAM, MOST_ANNOTATIONS,
@@ -145,8 +145,8 @@ fn entries(step: Step) -> Option<[i64; 3]> {
     }
 }
 
-/// All annotations into a lent store, three entries each. Ours writes nothing before it has checked all.
-/// pdb has no such function; its side writes each annotation as the iterator reaches it.
+/// All annotations into a lent store. Ours writes nothing before it has judged
+/// all; pdb has no such function, and its side writes each annotation as its iterator comes to it.
 fn decoding(bytes: &'static [u8]) -> Case {
     Case {
         name: "decode",
@@ -161,7 +161,7 @@ fn decoding(bytes: &'static [u8]) -> Case {
 fn written(bytes: &'static [u8], stores: &mut Stores) -> u64 {
     let mut count = 0;
     let mut iter = BinaryAnnotations::new(bytes).iter();
-    let mut room = stores.entries.chunks_exact_mut(3);
+    let mut room = stores.entries.chunks_exact_mut(ENTRIES_EACH);
     while let (Ok(Some(annotation)), Some(entries)) = (iter.next(), room.next()) {
         entries.copy_from_slice(&triple(annotation));
         count += 1;

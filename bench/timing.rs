@@ -2,6 +2,8 @@
 
 use std::time::Instant;
 
+use trovespan::ENTRIES_EACH;
+
 use super::inputs::{LONGEST_STREAM, MOST_ANNOTATIONS, PAGE};
 
 pub const RUNS: usize = 9;
@@ -30,7 +32,7 @@ impl Stores {
             offsets: vec![0; LONGEST_STREAM / PAGE],
             sizes: vec![0; LONGEST_STREAM / PAGE],
             bytes: vec![0; LONGEST_STREAM],
-            entries: vec![0; 3 * MOST_ANNOTATIONS],
+            entries: vec![0; ENTRIES_EACH * MOST_ANNOTATIONS],
         }
     }
 

@@ -187,10 +187,13 @@ pub fn step(bytes: &[u8], at: usize) -> (Step, usize) {
     (step, next as usize)
 }
 
-/// Decodes all annotations to the front of `store`, three entries each: opcode, first operand, second operand or 0.
-/// Returns the number of annotations.
+/// How many entries of its store [`decode`] writes for an annotation.
+pub const ENTRIES_EACH: usize = 3;
+
+/// Decodes all annotations to the front of `store`, [`ENTRIES_EACH`] entries each: opcode, first operand, second operand
+/// or 0. Returns how many annotations there are.
 ///
-/// Refuses with the first refusal of a step. If there is none, refuses with 10 if the store has fewer than three
+/// Refuses with the first refusal of a step; if there is none, with 10 if the store has fewer than [`ENTRIES_EACH`]
 /// entries for each annotation.
 ///
 /// ```

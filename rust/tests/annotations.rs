@@ -1,7 +1,7 @@
 //! The functions on binary annotations: accepted, and refused with every refusal they can give, with the store after
 //! it.
 
-use trovespan::{decode, number, step, DecodeRefusal, Refusal, Step};
+use trovespan::{decode, number, step, DecodeRefusal, Refusal, Step, ENTRIES_EACH};
 
 /// What a store holds before a call.
 const BEFORE: i64 = -0x5eed_5eed_5eed_5eed;
@@ -140,7 +140,7 @@ fn goes_on_after_each_step() {
 fn decoded(bytes: &[u8], room: usize) -> Result<Vec<i64>, DecodeRefusal> {
     let mut store = vec![BEFORE; room];
     let answer = decode(bytes, &mut store);
-    let written = answer.map_or(0, |annotations| 3 * annotations);
+    let written = answer.map_or(0, |annotations| ENTRIES_EACH * annotations);
     assert!(store[written..].iter().all(|entry| *entry == BEFORE));
     answer?;
     store.truncate(written);

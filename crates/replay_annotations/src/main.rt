@@ -7,6 +7,8 @@ mod record;
 
 use libc::STDIN_FILENO;
 use record::Header;
+use record::LARGEST_ROOM;
+use record::LONGEST;
 use replay::Digest;
 use replay::Next;
 use replay::Tally;
@@ -14,8 +16,8 @@ use replay::Tally;
 const LAST_BYTES: u64 = 256;
 
 fn main() {
-    let mut bytes = [0u8; 4096];
-    let mut store = [0i64; 6200];
+    let mut bytes = [0u8; LONGEST];
+    let mut store = [0i64; LARGEST_ROOM];
     let tally = run(&mut bytes, &mut store);
     tally.report();
 }

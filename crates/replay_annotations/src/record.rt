@@ -1,10 +1,15 @@
 // The header of a record: 20 bytes, its numbers little-endian (`tests/differential/README.md` has the format).
 use crate::ask::Question;
+use decode::ENTRIES_EACH;
 use replay::Digest;
 use replay::half;
 use replay::word;
 
-const LARGEST_ROOM: usize = 6200;
+// How many bytes a record may have.
+pub const LONGEST: usize = 4096;
+
+// How many entries a store may have: one more than all annotations of that many bytes take. Each has at least two bytes.
+pub const LARGEST_ROOM: usize = LONGEST / 2 * ENTRIES_EACH + 1;
 
 pub struct Header {
     // How many bytes follow.

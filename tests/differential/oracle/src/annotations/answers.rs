@@ -15,7 +15,10 @@ const ALL_DECODED: u64 = 6;
 const ALL_REFUSED: u64 = 7;
 const NO_ROOM: u64 = 8;
 
-/// A refusal's number and value.
+/// How many entries of a store an annotation takes.
+pub const ENTRIES_EACH: usize = 3;
+
+/// A refusal's number, and its value.
 pub type Refusal = (u64, u64);
 
 /// A library that is asked: pdb or ours.

@@ -1,6 +1,7 @@
 //! Strings too long for a list, whose places, counts and entries take more than 16, 24 and 32 bits.
 //! They are asked about through the crate alone.
 
+use super::answers::ENTRIES_EACH;
 use super::list::Question;
 use super::pdb::needed;
 use super::programs;
@@ -60,7 +61,8 @@ fn over_16_bits(program: Vec<u8>) -> impl Iterator<Item = Question> {
 /// Over 65,536 annotations, in stores of one entry too few, just enough, one more, and none.
 fn many_annotations() -> impl Iterator<Item = Question> {
     let count = BITS_17 + 5;
-    let rooms = vec![(3 * count - 1, 3 * count + 1), (0, 0)];
+    let needed = ENTRIES_EACH * count;
+    let rooms = vec![(needed - 1, needed + 1), (0, 0)];
     rooms.into_iter().map(move |(low, high)| Question {
         bytes: vec![1; 2 * count],
         at: 2 * BITS_17,

@@ -7,13 +7,14 @@
 use std::borrow::Cow;
 use std::io::{self, Write};
 
-use super::answers::{self, Answer, Library};
+use super::answers::{self, Answer, Library, ENTRIES_EACH};
 use super::pdb::Pdb;
 use crate::digest::Digest;
 use crate::records::{number, Layout};
 
 pub const LONGEST: usize = 4096;
-pub const LARGEST_ROOM: usize = 6200;
+/// One entry more than all annotations of the longest string take. Each has at least two bytes.
+pub const LARGEST_ROOM: usize = LONGEST / 2 * ENTRIES_EACH + 1;
 
 pub const LAYOUT: Layout = Layout {
     header: 20,

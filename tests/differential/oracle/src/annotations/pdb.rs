@@ -1,6 +1,6 @@
 //! pdb's answers, by the numbers of the project's rules.
 
-use super::answers::{Library, Refusal, Step};
+use super::answers::{Library, Refusal, Step, ENTRIES_EACH};
 use crate::common::Error;
 use crate::symbol::annotations::{BinaryAnnotation, BinaryAnnotations, BinaryAnnotationsIter};
 use crate::FallibleIterator;
@@ -47,7 +47,7 @@ impl Library for Pdb {
             None => Err(((NO_ROOM, entries.len() as u64), None)),
             Some(front) => {
                 front.copy_from_slice(&entries);
-                Ok(entries.len() / 3)
+                Ok(entries.len() / ENTRIES_EACH)
             }
         }
     }

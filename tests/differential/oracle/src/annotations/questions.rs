@@ -1,5 +1,6 @@
 //! The questions of the fixed list, and of a live list of any seed and length.
 
+use super::answers::ENTRIES_EACH;
 use super::list::{Question, LARGEST_ROOM, LONGEST};
 use super::pdb::needed;
 use super::{programs, rules};
@@ -39,8 +40,8 @@ const BOUNDARY: [u8; 14] = [
     0x00, 0x01, 0x06, 0x0b, 0x0c, 0x0d, 0x0e, 0x7f, 0x80, 0xbf, 0xc0, 0xdf, 0xe0, 0xff,
 ];
 
-/// Four bytes hold two annotations, which take six entries.
-const SMALL_ROOMS: usize = 7;
+/// One entry more than two annotations take: four bytes hold no more.
+const SMALL_ROOMS: usize = 2 * ENTRIES_EACH + 1;
 
 const FIXED_SEED: u64 = 0x7472_6f76;
 const FIXED_PROGRAMS: usize = 4000;
