@@ -1,4 +1,4 @@
--- A step that answers an annotation ends two bytes past its start at least, within the bytes.
+-- A step that answers an annotation ends at least two bytes past its start, within the bytes.
 use mathlib.Core.Path.{_≡_, refl, subst}
 use mathlib.Core.Bool.{Bool, true, false, cond}
 use mathlib.Core.List.{List}
@@ -47,7 +47,7 @@ step-moves s at =
     by-test P (eqb (code .value) 12) (λ _. after-number at (v .next) _ λ w l₂ m₂. found (omega arith) m₂)
     (λ _. found (omega arith) m₁))))
 
--- (A record, and no pair: `search` takes a pair apart before it looks for a lemma.)
+-- (A record, not a pair: `search` takes a pair apart before it looks for a lemma.)
 pub record Advanced (s : List ℕ) (at p : ℕ) : Type 0 where
   pub past : at + 2 ≤ p
   pub within : p ≤ length s

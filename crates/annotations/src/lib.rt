@@ -1,7 +1,7 @@
 // Binary annotations (`src/symbol/annotations.rs`): the line program of an inlined function (`S_INLINESITE`).
 //
-// annotation.rt: the thirteen annotations. step.rt: one step over bytes and a place. The numbers that they are made of
-// stand in crate `numbers` below, all steps into a lent store in crate `decode` above.
+// annotation.rt: the thirteen annotations. step.rt: one step from a place. Crate `numbers` below reads their numbers;
+// crate `decode` above takes all steps, into a lent store.
 mod annotation;
 mod step;
 

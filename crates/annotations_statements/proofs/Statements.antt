@@ -79,7 +79,7 @@ form-one b h = rw (lt-ltb b 0x80 h)
 form-least : (b : ℕ) → 1 ≤ form b
 form-least b = by-test (λ (n : ℕ). 1 ≤ n) (ltb b 0x80) (λ _. omega arith) (λ _. by-test (λ (n : ℕ). 1 ≤ n) (ltb b 0xc0) (λ _. omega arith) (λ _. omega arith))
 
--- two refusals of other numbers are two
+-- refusals of different numbers differ
 other : {x y : Stop} → _≡_ {A = Outcome Stop Number} (refused x) (refused y) → x .refusal .number ≡ y .refusal .number
 other {x} {y} e = let f : x ≡ y = cc in ap (λ (w : Stop). w .refusal .number) f
 

@@ -10,26 +10,26 @@ use Rattle.annotations.specs.Annotation.{triple}
 use Rattle.annotations.specs.Step.{Stepped, annotation, end, stepAt}
 use Rattle.numbers.specs.declared.number.Number.{Number}
 
--- a value, or an annotation, and the place after it; a refusal's number and value, and the place after it
-abbrev number : ℕ → ℕ → Outcome Stop Number
-number value next = ok (record { value = value; next = next })
+-- a number's value, or an annotation, and the place after it; a refusal's number and value, and the place after it
+abbrev reads : ℕ → ℕ → Outcome Stop Number
+reads value next = ok (record { value = value; next = next })
 
-abbrev found : ℕ → ℤ → ℤ → ℕ → Outcome Stop Stepped
-found op first second next = ok (annotation (record { triple = triple op first second; next = next }))
+abbrev finds : ℕ → ℤ → ℤ → ℕ → Outcome Stop Stepped
+finds op first second next = ok (annotation (record { triple = triple op first second; next = next }))
 
-abbrev stopped : ℕ → ℕ → ℕ → Outcome Stop Stepped
-stopped number value place = refused (record { refusal = record { number = number; value = value }; place = place })
+abbrev refuses : ℕ → ℕ → ℕ → Outcome Stop Stepped
+refuses number value place = refused (record { refusal = record { number = number; value = value }; place = place })
 
 pub record Cases : Type 0 where
-  pub one-byte : numberAt (0x7f ∷ []) 0 ≡ number 127 1
-  pub long-form : numberAt (0x80 ∷ 0x7f ∷ []) 0 ≡ number 127 2
-  pub two-bytes : numberAt (0xbf ∷ 0xff ∷ []) 0 ≡ number 16383 2
-  pub four-bytes : numberAt (0xc0 ∷ 0 ∷ 0x40 ∷ 0 ∷ []) 0 ≡ number 16384 4
-  pub largest : numberAt (0xdf ∷ 0xff ∷ 0xff ∷ 0xff ∷ []) 0 ≡ number 536870911 4
-  pub invalid : stepAt (0xe0 ∷ 0 ∷ 0 ∷ 0 ∷ []) 0 ≡ stopped 8 0 4
-  pub short : stepAt (0xe0 ∷ 0 ∷ 0 ∷ []) 0 ≡ stopped 7 0 3
-  pub both : stepAt (0x0b ∷ 0x72 ∷ []) 0 ≡ found 11 (pos 2) (negsuc 2) 2
-  pub negative : stepAt (0x06 ∷ 0x0f ∷ []) 0 ≡ found 6 (negsuc 6) (pos 0) 2
-  pub odd-zero : stepAt (0x06 ∷ 0x01 ∷ []) 0 ≡ found 6 (pos 0) (pos 0) 2
-  pub unknown : stepAt (0x0e ∷ []) 0 ≡ stopped 9 14 1
+  pub one-byte : numberAt (0x7f ∷ []) 0 ≡ reads 127 1
+  pub long-form : numberAt (0x80 ∷ 0x7f ∷ []) 0 ≡ reads 127 2
+  pub two-bytes : numberAt (0xbf ∷ 0xff ∷ []) 0 ≡ reads 16383 2
+  pub four-bytes : numberAt (0xc0 ∷ 0 ∷ 0x40 ∷ 0 ∷ []) 0 ≡ reads 16384 4
+  pub largest : numberAt (0xdf ∷ 0xff ∷ 0xff ∷ 0xff ∷ []) 0 ≡ reads 536870911 4
+  pub invalid : stepAt (0xe0 ∷ 0 ∷ 0 ∷ 0 ∷ []) 0 ≡ refuses 8 0 4
+  pub short : stepAt (0xe0 ∷ 0 ∷ 0 ∷ []) 0 ≡ refuses 7 0 3
+  pub both : stepAt (0x0b ∷ 0x72 ∷ []) 0 ≡ finds 11 (pos 2) (negsuc 2) 2
+  pub negative : stepAt (0x06 ∷ 0x0f ∷ []) 0 ≡ finds 6 (negsuc 6) (pos 0) 2
+  pub odd-zero : stepAt (0x06 ∷ 0x01 ∷ []) 0 ≡ finds 6 (pos 0) (pos 0) 2
+  pub unknown : stepAt (0x0e ∷ []) 0 ≡ refuses 9 14 1
   pub closed : stepAt (0x00 ∷ 0x03 ∷ 0x05 ∷ []) 0 ≡ ok (end 3)

@@ -1,4 +1,4 @@
--- What holds of the operations beyond their promises. proofs/Statements.antt proves each record.
+-- Statements about the operations beyond their promises. proofs/Statements.antt proves each record.
 use mathlib.Core.Path.{_≡_}
 use mathlib.Core.Logic.{_↔_}
 use mathlib.Core.List.{List, [], _∷_}
@@ -35,7 +35,7 @@ pub record SingleValued : Type 0 where
   pub step-at : (s : List ℕ) (at : ℕ) → Only (Stepping s at)
   pub decode-all : (s : List ℕ) (store : List ℤ) → Only₂ (Decoding s store)
 
--- the signed reading, over every operand, with both zeros and the ends of a 32-bit operand's range
+-- the signed reading of every operand, of 0 and 1, and at the ends of a 32-bit operand's range
 pub record SignedReading : Type 0 where
   pub even : (v : ℕ) → signedOf (2 * v) ≡ pos v
   pub odd : (v : ℕ) → signedOf (2 * v + 1) ≡ negℤ (pos v)
@@ -52,7 +52,7 @@ pub record AtMostHalf : Type 0 where
 abbrev pub form : ℕ → ℕ
 form b1 = cond (ltb b1 0x80) 1 (cond (ltb b1 0xc0) 2 4)
 
--- a number is refused under 7's or 8's condition and no other, and otherwise read
+-- a number is refused with 7 or with 8 exactly under that refusal's condition, and read otherwise
 pub record Exactly (s : List ℕ) (at : ℕ) (answer : Outcome Stop Number) : Type 0 where
   pub short : (answer ≡ refused (stop ShortData (length s))) ↔ (length s < at + form (getD s at 0))
   pub invalid : (answer ≡ refused (stop InvalidCompressedAnnotation (at + 4)))
@@ -62,23 +62,23 @@ pub record Exactly (s : List ℕ) (at : ℕ) (answer : Outcome Stop Number) : Ty
 pub record NumberExactly : Type 0 where
   pub is : (s : List ℕ) (at : ℕ) → Exactly s at (numberAt s at)
 
--- stepping from place to place: these annotations, up to that place
+-- steps from one place to another, which answer these annotations
 pub data StepsTo (s : List ℕ) : ℕ → List Found → ℕ → Type 0 where
   none : {at : ℕ} → StepsTo s at [] at
   more : {at last : ℕ} {x : Found} {later : List Found} → stepAt s at ≡ ok (annotation x)
       → StepsTo s (x .next) later last → StepsTo s at (x ∷ later) last
 
--- a step that closes a run: the end, or a refusal
+-- the last step of a run: the end, or a refusal
 abbrev pub closing : Outcome Stop ℕ → Outcome Stop Stepped
 closing (ok place) = ok (end place)
 closing (refused why) = refused why
 
--- stepping from a place on gives this run, up to the end or the first refusal
+-- stepping from a place gives this run, up to the end or the first refusal
 pub record Stepped-through (s : List ℕ) (at : ℕ) (r : Run) : Type 0 where
   pub steps : StepsTo s at (r .found) (r .at)
   pub closes : stepAt s (r .at) ≡ closing (r .last)
 
--- decode-all's run is what stepping gives, and no other run is
+-- the run of decoding all is what stepping gives, and no other run is
 pub record Agreement : Type 0 where
   pub is : (s : List ℕ) → Stepped-through s 0 (decodeAll s)
   pub only : (s : List ℕ) (r : Run) → Stepped-through s 0 r → r ≡ decodeAll s

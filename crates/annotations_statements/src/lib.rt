@@ -1,4 +1,4 @@
-// What holds of binary annotations beyond the promises, as statements with their proofs.
+// Statements about binary annotations beyond the promises, with their proofs.
 //
 // specs/Statements.antt: no second answer, the signed reading, numbers, steps and decoding all.
 // specs/Cases.antt: the (P) cases.
@@ -6,7 +6,7 @@ ghost use Rattle.annotations_statements.specs.Cases.{Cases};
 ghost use Rattle.annotations_statements.specs.Statements.{Told, SingleValued, SignedReading, AtMostHalf};
 ghost use Rattle.annotations_statements.specs.Statements.{NumberExactly, Agreement, DecodeExactly};
 
-// Each statement of this crate, as a promise that must be proved: none can vanish unnoticed.
+// Promises each statement of this crate, so that none can be dropped unnoticed.
 pub fn proved()
     ensures { λ r. ⌜ Told ⌝ }
     ensures { λ r. ⌜ SingleValued ⌝ }

@@ -1,5 +1,5 @@
--- The two loops of decoding all, and its ways out. Each loop's invariant says what is left in terms of what is wanted, so
--- that the loop's end gives the promise.
+-- The two loops of decoding all, and what `decoding` answers at each return. Each loop's invariant says what is left in
+-- terms of what is wanted, so the loop's end gives the promise.
 use mathlib.Core.Path.{_≡_, refl, sym, _∙_, ap}
 use mathlib.Core.List.{List, [], _∷_, _++_}
 use Prim.Native.Nat.{ℕ, suc, _+_, _-_, _*_, _^_, _≤_, _<_}
@@ -142,7 +142,7 @@ pub ruleset write-cases = (step-less, write-none, write-room, write-more, write-
 pub put-is : (st : List ℤ) (at : ℕ) (y z : ℤ) {x w : ℤ} → x ≡ w → mag x < 2 ^ 63 → mag y < 2 ^ 63 → mag z < 2 ^ 63 → set (set (set st at (toZ w64 (ofZ w64 x))) (at + 1) (toZ w64 (ofZ w64 y))) (at + 2) (toZ w64 (ofZ w64 z)) ≡ sets st at (w ∷ y ∷ z ∷ [])
 put-is st at y z e p q r = rw (stored p, stored q, stored r, e, add-one, add-two)
 
--- ---- the ways out of `decode_all`
+-- ---- the returns of `decode_all`
 length-entries : (l : List Found) → length (entries l) ≡ entriesEach * length l
 unfolding entries
 length-entries [] = refl

@@ -1,4 +1,4 @@
--- A step moves, so the fuel is enough, and all the steps from a place on are the step there and all those after it.
+-- An annotation takes bytes, so the fuel is enough, and all steps from a place are the step there and those after it.
 use mathlib.Core.Path.{_≡_, refl, ap}
 use mathlib.Core.List.{List, [], _∷_}
 use Prim.Native.Nat.{ℕ, zero, suc, _+_, _-_, _*_, _≤_, _<_}

@@ -11,13 +11,13 @@ use Rattle.numbers.specs.Refusal.{Stop}
 use Rattle.annotations.specs.Step.{Found, Stepped, annotation, end, stepAt}
 use Rattle.annotations.specs.declared.annotation.Triple.{Triple}
 
--- a run of steps: what was found, where the closing step was taken, and that step: the end with its place, or a refusal
+-- a run of steps: what was found, where the last step was taken, and its answer: the end with its place, or a refusal
 pub record Run : Type 0 where
   pub found : List Found
   pub at : ℕ
   pub last : Outcome Stop ℕ
 
--- a step's answer, and what follows an annotation
+-- a run that begins with a step's answer; after an annotation it goes on
 unfoldable pub onStep : ℕ → Outcome Stop Stepped → (ℕ → Run) → Run
 onStep at (ok (annotation x)) next =
     let r : Run = next (x .next) in record { found = x ∷ r .found; at = r .at; last = r .last }
@@ -37,13 +37,14 @@ rest s at = runFrom s (suc (length s - at)) at
 unfoldable pub decodeAll : List ℕ → Run
 decodeAll s = rest s 0
 
--- three signed 64-bit numbers for each: opcode, first, second or 0
+-- "three signed 64-bit numbers for each: opcode, first, second or 0"
 abbrev pub entriesEach : ℕ
 entriesEach = 3
 
 abbrev pub tripleEntries : Triple → List ℤ
 tripleEntries t = pos (t .opcode) ∷ t .first ∷ t .second ∷ []
 
+-- the entries of one annotation, of several, and of all that the bytes hold
 abbrev pub entriesOf : Found → List ℤ
 entriesOf x = tripleEntries (x .triple)
 

@@ -1,5 +1,5 @@
-// All annotations of a line program, into a lent store. Two passes: first judge and count, then write, so that a refusal
-// has written nothing.
+// Decodes all annotations of a line program into a lent store. The first pass counts them and the second writes them,
+// so a refusal has written nothing.
 use annotations::Step;
 use annotations::Triple;
 use annotations::step_at;
@@ -31,7 +31,7 @@ pub(crate) enum CountedAll {
 }
 
 impl CountedAll {
-    // The refusal, for a caller that knows that there is one.
+    // Why nothing was counted. Only asked of a refusal.
     fn why(self) -> PlacedRefusal
         ensures { λ r. ⌜ r ≡ whyCountedAll self ⌝ }
     {
@@ -45,6 +45,7 @@ impl CountedAll {
     }
 }
 
+// Decodes all annotations to the front of the store. Refuses with 7, 8, 9 or 10.
 pub fn decode_all(bytes: &[u8], store: &mut [i64]) -> Decoded
     ensures { λ r. ⌜ Decoding (now (bytes .entry)) (now (store .entry)) r (now (store .exit)) ⌝ }
 {
@@ -60,7 +61,7 @@ pub fn decode_all(bytes: &[u8], store: &mut [i64]) -> Decoded
     Decoded::Count(n)
 }
 
-// How many annotations there are before the end, or the first refusal.
+// Counts the annotations before the end, unless a step is refused.
 fn count_all(bytes: &[u8]) -> CountedAll
     ensures { λ r. ⌜ CountingAll (now (bytes .entry)) r ⌝ }
 {
@@ -83,7 +84,7 @@ fn count_all(bytes: &[u8]) -> CountedAll
     }
 }
 
-// Writes the entries of all annotations, from the front. The caller guarantees room for them.
+// Writes the entries of all annotations from the front. The caller guarantees room for them.
 fn write_all(bytes: &[u8], store: &mut [i64])
     requires { ⌜ length (decodedEntries (now bytes)) ≤ length (now store) ⌝ }
     ensures { λ r. ⌜ now (store .exit) ≡ sets (now (store .entry)) 0 (decodedEntries (now (bytes .entry))) ⌝ }
@@ -109,6 +110,7 @@ fn write_all(bytes: &[u8], store: &mut [i64])
     }
 }
 
+// Writes the entries of one annotation. The caller guarantees room for them.
 fn put(store: &mut [i64], at: usize, t: Triple)
     requires { ⌜ at + entriesEach ≤ length (now store) ⌝ }
     ensures { λ r. ⌜ now (store .exit) ≡ sets (now (store .entry)) at (tripleEntries t) ⌝ }

@@ -11,7 +11,7 @@ use Rattle.numbers.specs.Refusal.{Stop}
 use Rattle.numbers.specs.Number.{numberAt}
 use Rattle.numbers.specs.declared.number.Number.{Number}
 
--- (A type by `data`, and no function by cases: what does not compute can be matched at a choice that is not made yet.)
+-- (A `data` type, not a function by cases: it can be matched before the choice is computed.)
 pub data NumberMoves (s : List ℕ) (from : ℕ) : Outcome Stop Number → Type 0 where
   value : {n : Number} → from < n .next → n .next ≤ length s → NumberMoves s from (ok n)
   none : {why : Stop} → NumberMoves s from (refused why)

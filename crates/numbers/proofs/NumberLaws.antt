@@ -1,5 +1,5 @@
--- The ways out of `uncompress_next`. The premises are the reader's own tests, word for word, so that `search` finds each
--- among the facts of the proof.
+-- What `numberAt` answers at each return of `uncompress_next`. The premises are the code's own tests, word for word, so
+-- that `search` finds them among the facts of the proof.
 use mathlib.Core.Path.{_≡_}
 use mathlib.Core.List.{List}
 use Prim.Native.Nat.{ℕ, _+_, _-_, _*_, _%_, _^_, _<_, _≤_}

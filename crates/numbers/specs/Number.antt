@@ -9,7 +9,7 @@ use Rattle.numbers.specs.Refusal.{Stop, stop}
 use Rattle.numbers.specs.declared.refusal.Refusal.the-variants.{ShortData, InvalidCompressedAnnotation}
 use Rattle.numbers.specs.declared.number.Number.{Number}
 
--- a form that takes n bytes, where they are there; else 7, and the place is the end
+-- a form that takes n bytes, if they are there; else 7, and the place is the end
 abbrev pub taking : List ℕ → ℕ → ℕ → Outcome Stop Number → Outcome Stop Number
 taking s at n form = cond (leb (at + n) (length s)) form (refused (stop ShortData (length s)))
 

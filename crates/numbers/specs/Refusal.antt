@@ -10,7 +10,7 @@ refusalIn ShortData = record { number = 7; value = 0 }
 refusalIn InvalidCompressedAnnotation = record { number = 8; value = 0 }
 refusalIn (UnknownBinaryAnnotation opcode) = record { number = 9; value = opcode }
 
--- "always with the place after it"
+-- a refusal with its place: "always with the place after it"
 pub record Stop : Type 0 where
   pub refusal : paper.Refusal
   pub place : ℕ

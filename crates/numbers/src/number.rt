@@ -1,5 +1,5 @@
-// The compressed number of binary annotations, at most 0x1fffffff, in one, two or four bytes: `CVUncompressData`, with
-// the lengths checked. The Rust's `uncompress_next`.
+// A compressed number (`CVUncompressData`): a value of at most 0x1fffffff in one, two or four bytes. Lengths are
+// checked. The Rust's `uncompress_next`.
 use crate::refusal::PlacedRefusal;
 use crate::refusal::Refusal;
 ghost use mathlib.Core.Path.{_≡_};
@@ -21,7 +21,7 @@ pub enum Uncompressed {
 }
 
 impl Uncompressed {
-    // The refusal, for a caller that knows that there is one.
+    // Why there is no number. Only asked of a refusal.
     pub fn why(self) -> PlacedRefusal
         ensures { λ r. ⌜ r ≡ whyUncompressed self ⌝ }
     {
@@ -35,6 +35,7 @@ impl Uncompressed {
     }
 }
 
+// Reads the number at `at`. Refuses with 7 or 8.
 pub fn uncompress_next(bytes: &[u8], at: usize) -> Uncompressed
     ensures { λ r. ⌜ Uncompressing (now (bytes .entry)) at r ⌝ }
 {
@@ -78,7 +79,7 @@ pub fn uncompress_next(bytes: &[u8], at: usize) -> Uncompressed
     })
 }
 
-// The byte at a place, wide: one call gives the value and its bound.
+// The byte at a place as a u32. One call gives its value and its bound.
 fn byte_at(bytes: &[u8], at: usize) -> u32
     requires { ⌜ at < length (now bytes) ⌝ }
     ensures { λ r. ⌜ Byte (now (bytes .entry)) at r ⌝ }

@@ -18,7 +18,7 @@ pub struct PlacedRefusal {
 }
 
 impl Refusal {
-    // Its number in document 01's table.
+    // The refusal's number in document 01's table.
     pub fn number(self) -> u32
         ensures { λ r. ⌜ r ≡ refusalIn self .number ⌝ }
     {

@@ -1,4 +1,4 @@
--- What holds of the reader beyond its promises. proofs/Statements.antt proves each record.
+-- Statements about the reader beyond its promises. proofs/Statements.antt proves each record.
 use mathlib.Core.Path.{_≡_}
 use mathlib.Core.List.{List, [], _∷_, map}
 use Prim.Native.Nat.{ℕ, zero, suc, _≤_}
@@ -21,14 +21,14 @@ pub record SingleValued : Type 0 where
   pub next : (r : BinaryAnnotationsIter) → Only₂ (Moving r)
   pub next-at : (s : List ℕ) (at : ℕ) → Only (MovingAt s at)
 
--- at the end `next` answers the end, at the length; after an end it answers that end again, and the reader stays
+-- at or past the end `next` answers the end, at the length; after an end it answers it again, and the reader stays
 pub record StaysAtTheEnd : Type 0 where
   pub at-the-end : (r r′ : BinaryAnnotationsIter) (step : Step) → length (now (r .bytes)) ≤ r .at → Moving r step r′
       → (step ≡ End (length (now (r .bytes)))) × (r′ .at ≡ length (now (r .bytes)))
   pub after-an-end : (r r′ r″ : BinaryAnnotationsIter) (place : ℕ) (step : Step) → Moving r (End place) r′
       → Moving r′ step r″ → (step ≡ End place) × (r″ ≡ r′)
 
--- `next` called again and again: these answers, and the reader after the last
+-- repeated calls of `next`: their answers, and the reader after the last
 pub data Called : BinaryAnnotationsIter → List Step → BinaryAnnotationsIter → Type 0 where
   none : {r : BinaryAnnotationsIter} → Called r [] r
   more : {r r′ last : BinaryAnnotationsIter} {step : Step} {later : List Step} → Moving r step r′

@@ -1,8 +1,8 @@
-// The reader of binary annotations, the Rust's `BinaryAnnotationsIter`: a struct that holds the lent bytes and its place in
-// them. It is thin over `annotations::step_at`. The checker covers no function over such a struct, so each is walked by
-// hand in proofs/, and none of them has a branch: what there is to decide, `place_after` decides, by value.
+// The reader of binary annotations, the Rust's `BinaryAnnotationsIter`: a struct that holds the lent bytes and a place
+// in them. It calls `annotations::step_at`. The borrow checker does not cover functions over such a struct, so their
+// proofs walk the code by hand. They have no branch: `place_after`, which is covered, makes the one decision.
 //
-// Callers with plain bytes and a place use `step_at`; the reader is for where a value must be handed round. `next_at` goes
+// Use `step_at` with plain bytes and a place, and the reader where one value must be passed around. `next_at` goes
 // through the reader and has plain parameters, so its callers need no walk.
 use annotations::Step;
 ghost use mathlib.Core.Path.{_≡_};
@@ -16,21 +16,21 @@ pub struct BinaryAnnotationsIter<'a> {
     at: usize,
 }
 
-// A step's answer, and where the reader stands after it.
+// A step's answer, and the reader's place after it.
 pub struct Moved {
     pub step: Step,
     pub place: usize,
 }
 
 impl<'a> BinaryAnnotationsIter<'a> {
-    // A reader of these bytes, at their start.
+    // A reader at the start of these bytes.
     pub fn new(bytes: &'a [u8]) -> BinaryAnnotationsIter<'a>
         ensures { λ r. ⌜ Starting (bytes .entry) r ⌝ }
     {
         BinaryAnnotationsIter { bytes, at: 0 }
     }
 
-    // One step: the reader moves to the place that the step gives.
+    // Takes one step and moves the reader to the place after it.
     pub fn next(&mut self) -> Step
         ensures { λ s. ⌜ Moving (now (self .entry)) s (now (self .exit)) ⌝ }
     {
@@ -40,7 +40,7 @@ impl<'a> BinaryAnnotationsIter<'a> {
     }
 }
 
-// One step of a reader that stands at a place.
+// One step of a new reader that is moved to `at`.
 pub fn next_at(bytes: &[u8], at: usize) -> Moved
     ensures { λ r. ⌜ MovingAt (now (bytes .entry)) at r ⌝ }
 {
@@ -50,6 +50,7 @@ pub fn next_at(bytes: &[u8], at: usize) -> Moved
     Moved { step, place: r.at }
 }
 
+// The place after a step.
 fn place_after(step: Step) -> usize
     ensures { λ r. ⌜ r ≡ placeAfter (stepIn step) ⌝ }
 {
@@ -60,7 +61,7 @@ fn place_after(step: Step) -> usize
     }
 }
 
-// Each statement of this crate, as a promise that must be proved: none can vanish unnoticed.
+// Promises each statement of this crate, so that none can be dropped unnoticed.
 pub fn proved()
     ensures { λ r. ⌜ SingleValued ⌝ }
     ensures { λ r. ⌜ StaysAtTheEnd ⌝ }

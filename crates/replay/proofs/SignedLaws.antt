@@ -1,4 +1,4 @@
--- Signed numbers as the machine casts and subtracts them, at 64 bits. A signed argument is read back from its bits.
+-- Signed 64-bit numbers as the machine casts and subtracts them. A signed argument is read back from its bits.
 use mathlib.Core.Bool.{Bool, true, false, cond}
 use mathlib.Core.Path.{_≡_, subst}
 use Prim.Native.Nat.{ℕ, zero, suc, _+_, _-_, _^_, _<_}
@@ -10,7 +10,7 @@ use mir.Syntax.{w64}
 use mir.Val.{Fits, SFits, toZ, ofZ}
 use mir.Facts.{toZ-ofZ, toZ-pos}
 
--- a number that a test found not to be negative is an unsigned one
+-- a number that is not negative, by a test, is unsigned
 unsigned : (z : ℤ) → SFits w64 z → ltZ z (pos 0) ≡ false → T (nonNeg z) × Fits w64 (natAbs z)
 unsigned (pos n) h e = (tt, record { fits = omega arith })
 unsigned (negsuc n) h e = absurd (subst T e tt)

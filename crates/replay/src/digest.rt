@@ -1,5 +1,5 @@
-// The digest of a record's answers: two lanes, each a polynomial modulo a prime below 2^32. `tests/differential` computes
-// the same of what the Rust answers.
+// The digest of a record's answers: two lanes, each a polynomial modulo a prime below 2^32. `tests/differential`
+// computes the same digest of the Rust's answers.
 const PRIME: u64 = 4294967291;
 
 const HALF: u64 = 0x100000000;
@@ -16,10 +16,10 @@ impl Digest {
 
     // A count, a place or a case: its low half, then its high half.
     pub fn plain(self, word: u64) -> Self {
-        self.half(word % HALF).half(word / HALF)
+        self.mixed(word % HALF).mixed(word / HALF)
     }
 
-    // A number of an annotation or of a store: its sign, and then its distance from 0 or from -1.
+    // A signed number: its sign, and then its distance from 0 or from -1.
     pub fn signed(self, z: i64) -> Self {
         if z < 0 {
             return self.plain(1).plain(below_zero(z));
@@ -29,14 +29,14 @@ impl Digest {
 
     // A byte of a store: one half, since there may be many.
     pub fn byte(self, b: u8) -> Self {
-        self.half(b as u64)
+        self.mixed(b as u64)
     }
 
     pub fn agrees(self, other: Digest) -> bool {
         self.a == other.a && self.b == other.b
     }
 
-    fn half(self, half: u64) -> Self {
+    fn mixed(self, half: u64) -> Self {
         Digest {
             a: lane_a(self.a, half),
             b: lane_b(self.b, half),
@@ -59,7 +59,7 @@ fn magnitude(z: i64) -> u64 {
     z as u64
 }
 
-// How far a negative number is from -1.
+// The distance of a negative number from -1.
 fn below_zero(z: i64) -> u64 {
     magnitude(-1 - z)
 }

@@ -1,7 +1,7 @@
-// What the programs share that replay a list of questions: the digest of answers, a record's numbers, and the tally of
-// the records. `tests/differential/README.md` has the lists' formats.
+// What the replay programs share: the digest of answers, a record's numbers, and the tally of the records.
+// `tests/differential/README.md` has the lists' formats.
 //
-// digest.rt: the digest. number.rt: numbers as a record has them. tally.rt: the tally, and what a program writes of it.
+// digest.rt: the digest. number.rt: a record's numbers. tally.rt: the tally, and how a program reports it.
 mod digest;
 mod number;
 mod tally;

@@ -1,4 +1,4 @@
-// Numbers as a record has them: little-endian, of two and of four bytes.
+// A record's numbers: little-endian, of two and of four bytes.
 pub fn half(b0: u8, b1: u8) -> usize {
     b0 as usize + b1 as usize * 0x100
 }

@@ -1,11 +1,11 @@
-// The tally of the records that were replayed, and what a program writes of it.
+// The tally of replayed records, and how a program reports it.
 use libc::STDOUT_FILENO;
 
 // Whether there is more to read.
 pub enum Next {
     Record,
     Ended,
-    // A record is cut, or its header is outside the limits.
+    // A record is cut short, or its header exceeds the limits.
     Bad,
 }
 
@@ -47,7 +47,7 @@ impl Tally {
         }
     }
 
-    // The tally after a record. The counts are far below 2^64, and a sum that wraps asks for no proof of that.
+    // The tally after a record. The counts are far below 2^64; wrapping sums need no proof of that.
     pub fn counted(self, questions: u64, agrees: bool) -> Self {
         let first = if !agrees && self.differ == 0 {
             self.records

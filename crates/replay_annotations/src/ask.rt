@@ -1,5 +1,5 @@
-// One question to the library, and the digest of what it answers: the number and the steps at a place, the steps in both
-// forms, and all of the bytes decoded into stores of several rooms. Each answer begins with the number of its case.
+// Asks the library one question and digests its answers: the number at a place, the steps from there in both forms, and
+// all of the bytes decoded into stores of several sizes. Each answer begins with the number of its case.
 use annotations::Step;
 use decode::Decoded;
 use numbers::PlacedRefusal;
@@ -22,13 +22,13 @@ const ALL_REFUSED: u64 = 7;
 
 const NO_ROOM: u64 = 8;
 
-// No answer of a list begins with it.
+// No recorded answer begins with it.
 const READER_DIFFERS: u64 = 9;
 
-// Document 01's number of the refusal for want of room.
+// Document 01's number for a store that is too small.
 const NO_ROOM_REFUSAL: u64 = 10;
 
-// What a record asks: a place, and the rooms of the stores.
+// What a record asks: a place, and the sizes of the stores.
 pub struct Question {
     pub at: usize,
     pub low: usize,
@@ -49,15 +49,15 @@ fn number(d: Digest, bytes: &[u8], at: usize) -> Digest {
     }
 }
 
-// Where the steps have come to.
+// How far the steps have come.
 struct Walk {
     digest: Digest,
     at: usize,
     ended: bool,
 }
 
-// The steps from a place on, going on after a refusal. A step moves by at least one byte, so one more than the length
-// is enough to come to the end. They are asked twice, of `step_at` and of the reader.
+// All steps from a place, also those after a refusal. Each takes at least one byte, so one turn more than the length
+// reaches the end. `step_at` and the reader are both asked.
 fn steps(d: Digest, bytes: &[u8], at: usize) -> Digest {
     let mut walk = Walk {
         digest: d,
@@ -72,7 +72,7 @@ fn steps(d: Digest, bytes: &[u8], at: usize) -> Digest {
     both(walk.digest, read.digest)
 }
 
-// The digest that both forms came to. Where they differ a word that no answer has is mixed in, so that the record differs.
+// The digest of both forms. If they differ, a word that no answer has makes the record differ.
 fn both(walked: Digest, read: Digest) -> Digest {
     if walked.agrees(read) {
         return walked;
@@ -97,7 +97,7 @@ fn step(walk: Walk, bytes: &[u8]) -> Walk {
     }
 }
 
-// The same step of a reader; what follows goes on from where the reader then stands.
+// The same step by a reader, and the reader's place after it.
 fn next(walk: Walk, bytes: &[u8]) -> Walk {
     if walk.ended {
         return walk;
@@ -111,14 +111,15 @@ fn next(walk: Walk, bytes: &[u8]) -> Walk {
     }
 }
 
+// A step's answer.
 fn with_step(d: Digest, step: Step) -> Digest {
     match step {
         Step::Annotation(a) => {
             let annotation = a.annotation;
             let t = annotation.triple();
             let kind = d.plain(ANNOTATION).plain(0).plain(t.opcode as u64);
-            let placed = kind.signed(t.first).signed(t.second).plain(a.next as u64);
-            placed.plain(flag(annotation.emits_line_info()))
+            let whole = kind.signed(t.first).signed(t.second).plain(a.next as u64);
+            whole.plain(flag(annotation.emits_line_info()))
         }
         Step::End(place) => d.plain(END).plain(place as u64),
         Step::Refused(why) => refused(d, STEP_REFUSED, why),
@@ -137,7 +138,7 @@ fn flag(emits: bool) -> u64 {
     if emits { 1 } else { 0 }
 }
 
-// All of the bytes decoded, once for each room.
+// All of the bytes decoded, once for each size of the store.
 fn rooms(d: Digest, bytes: &[u8], store: &mut [i64], low: usize, high: usize) -> Digest {
     let mut digest = d;
     for room in low..=high {
@@ -153,7 +154,7 @@ fn in_room(d: Digest, bytes: &[u8], store: &mut [i64], room: usize) -> Digest {
     decoded(d, bytes, &mut store[..room])
 }
 
-// The answer, and then the whole store, so that an entry that was written and should not have been shows.
+// The answer and then the whole store, so that an entry written by mistake shows.
 fn decoded(d: Digest, bytes: &[u8], store: &mut [i64]) -> Digest {
     clear(store);
     let answered = match decode::decode_all(bytes, store) {
@@ -164,7 +165,7 @@ fn decoded(d: Digest, bytes: &[u8], store: &mut [i64]) -> Digest {
     whole_store(answered, store)
 }
 
-// Puts a number of its own at each entry, that no annotation has.
+// Fills the store with numbers that no annotation has.
 fn clear(store: &mut [i64]) {
     for i in 0..store.len() {
         store[i] = untouched(i);

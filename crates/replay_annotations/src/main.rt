@@ -1,5 +1,5 @@
-// Replays a list of questions about binary annotations and compares: standard input has records, each a question and the
-// digest of what the Rust answers. Writes how many strings were asked and how many records differ.
+// Replays a list of questions about binary annotations: standard input has records, each a question and the digest of
+// the Rust's answers. Writes how many strings were asked and how many records differ.
 //
 // ask.rt: one question to the library. record.rt: a record's header. This file: the run.
 mod ask;
@@ -22,7 +22,7 @@ fn main() {
     tally.report();
 }
 
-// A proved loop has to end, and nothing says that the input does. So the loop counts its turns down, from a number that
+// A proved loop must end, and nothing says that the input does. So the loop counts its turns down, from a number that
 // no run uses up.
 fn run(bytes: &mut [u8], store: &mut [i64]) -> Tally {
     let mut tally = Tally::new();
@@ -50,7 +50,7 @@ fn replay_record(tally: Tally, bytes: &mut [u8], store: &mut [i64]) -> Tally {
     with_header(tally, h, bytes, store)
 }
 
-// `bytes` is as long as a record's bytes may be.
+// `bytes` has room for the longest record.
 fn with_header(tally: Tally, h: Header, bytes: &mut [u8], store: &mut [i64]) -> Tally {
     let length = h.length;
     if bytes.len() < length {
@@ -59,7 +59,7 @@ fn with_header(tally: Tally, h: Header, bytes: &mut [u8], store: &mut [i64]) -> 
     with_bytes(tally, h, &mut bytes[..length], store)
 }
 
-// Reads the record's bytes, as many as `bytes` has, and asks.
+// Reads as many bytes as `bytes` has, and asks.
 fn with_bytes(tally: Tally, h: Header, bytes: &mut [u8], store: &mut [i64]) -> Tally {
     let got = io::read_full(STDIN_FILENO, bytes);
     if got < bytes.len() {
@@ -74,7 +74,7 @@ fn with_bytes(tally: Tally, h: Header, bytes: &mut [u8], store: &mut [i64]) -> T
     tally.counted(1, recorded.agrees(digest))
 }
 
-// The question asked at each value of the last byte, all in one digest.
+// Asks the question for each value of the last byte, into one digest.
 fn swept(h: Header, bytes: &mut [u8], store: &mut [i64]) -> Digest {
     let mut digest = Digest::new();
     for last in 0..LAST_BYTES {

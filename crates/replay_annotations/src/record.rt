@@ -8,18 +8,19 @@ use replay::word;
 // How many bytes a record may have.
 pub const LONGEST: usize = 4096;
 
-// How many entries a store may have: one more than all annotations of that many bytes take. Each has at least two bytes.
+// How many entries a store may have: one more than all annotations of that many bytes take. Each has at least two
+// bytes.
 pub const LARGEST_ROOM: usize = LONGEST / 2 * ENTRIES_EACH + 1;
 
 pub struct Header {
     // How many bytes follow.
     pub length: usize,
     pub question: Question,
-    // The question is asked at every value of the last byte.
+    // The question is asked for every value of the last byte.
     pub sweep: bool,
-    // What the Rust answers.
+    // The digest of the Rust's answers.
     pub digest: Digest,
-    // The byte that says whether to sweep is 0 or 1, and the three after it are 0.
+    // The sweep byte is 0 or 1, and the three bytes after it are 0.
     pub well_formed: bool,
 }
 
@@ -41,7 +42,7 @@ pub fn parse(h: &[u8; 20]) -> Header {
 }
 
 impl Header {
-    // A list of ours keeps to these, so one that does not is damaged.
+    // Our lists keep within these limits; one that does not is damaged.
     pub fn within_limits(self) -> bool {
         let q = self.question;
         if self.sweep && self.length == 0 {

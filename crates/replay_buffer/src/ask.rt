@@ -1,4 +1,4 @@
-// One question to the library, and the digest of what it answers: the number at each place, and each count of bytes taken
+// Asks the library one question and digests its answers: the number at each place, and parts of each length taken
 // there. Each answer begins with the number of its case.
 use parse_buffer::Parsed;
 use replay::Digest;
@@ -10,10 +10,11 @@ const WORD_REFUSED: u64 = 22;
 const TAKEN: u64 = 23;
 
 const NOT_THERE: u64 = 24;
-// Document 01's number of the refusal past the bytes.
+
+// Document 01's number for a read past the bytes.
 const SHORT_DATA: u64 = 7;
 
-// What a record asks: the places, and how many bytes to take at each.
+// What a record asks: the places, and the lengths to take at each.
 pub struct Question {
     pub first: usize,
     pub last: usize,
@@ -45,9 +46,8 @@ fn parts(d: Digest, bytes: &[u8], at: usize, q: Question) -> Digest {
     digest
 }
 
-// The Rust refuses where the bytes are not there. Ours has to hand back no byte then, so the length shows one that did.
-// No program sees where a part begins: that ours begins at `at` is the promise of `take`, and the Rust's place is held
-// to it.
+// The Rust refuses if the bytes are not there. Ours must return an empty part then, and the length shows it. No program
+// can see where a part begins: `take` promises that it begins at `at`, and the Rust's place is compared with that.
 fn part(d: Digest, bytes: &[u8], at: usize, n: usize) -> Digest {
     let taken = parse_buffer::take(bytes, at, n);
     let length = taken.len() as u64;
@@ -57,7 +57,7 @@ fn part(d: Digest, bytes: &[u8], at: usize, n: usize) -> Digest {
     d.plain(NOT_THERE).plain(length)
 }
 
-// at + n is at most the length, with no sum that may overflow.
+// Whether at + n is at most the length, without a sum that may overflow.
 fn there(length: usize, at: usize, n: usize) -> bool {
     at <= length && n <= length - at
 }

@@ -8,7 +8,7 @@ pub struct Header {
     // How many bytes follow.
     pub length: usize,
     pub question: Question,
-    // What the Rust answers.
+    // The digest of the Rust's answers.
     pub digest: Digest,
 }
 
@@ -29,7 +29,7 @@ pub fn parse(h: &[u8; 18]) -> Header {
 }
 
 impl Header {
-    // A list of ours keeps to these, so one that does not is damaged.
+    // Our lists keep within these limits; one that does not is damaged.
     pub fn within_limits(self) -> bool {
         let q = self.question;
         q.first <= q.last && q.last <= self.length && q.fewest <= q.most

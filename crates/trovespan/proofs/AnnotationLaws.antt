@@ -1,4 +1,5 @@
--- The answers about binary annotations as they cross: one law for each kind of answer.
+-- The answers about binary annotations as they cross: an operation's promise and the variant of its answer give the
+-- numbers that the exported function's promise names.
 use mathlib.Core.Path.{_≡_, sym, _∙_, ap}
 use mathlib.Core.List.{List}
 use Prim.Native.Nat.{ℕ}

@@ -1,4 +1,5 @@
--- The container's answers as they cross: one law for a value and one for a refusal of each operation.
+-- The container's answers as they cross: an operation's promise and the variant of its answer give the numbers that the
+-- exported function's promise names.
 use mathlib.Core.Path.{_≡_, sym, _∙_, ap}
 use mathlib.Core.List.{List}
 use Prim.Native.Nat.{ℕ}

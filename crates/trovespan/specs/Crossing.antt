@@ -10,18 +10,18 @@ use Rattle.annotations.specs.Step.{Stepped, annotation, end}
 use Rattle.msf.specs.declared.limit.Limit.{Limit}
 use Rattle.msf.specs.declared.limit.Limit.the-variants.{None, AtMost}
 
--- what is told of an answer: one thing of a value, another of a refusal
+-- what crosses of an answer: one thing of a value, another of a refusal
 unfoldable pub told : {E A B : Type 0} → (A → B) → (E → B) → Outcome E A → B
 told of why (ok a) = of a
 told of why (refused e) = why e
 
--- the number that is returned, and the first that is lent: 0 and a number of the value, or the refusal's number and value
--- in document 01's table
+-- the returned number and the first lent one: 0 and a number of the value, or the refusal's number and value in
+-- document 01's table
 pub record Tells {A : Type 0} (o : Outcome paper.Refusal A) (of : A → ℕ) (r v : ℕ) : Type 0 where
   pub number : r ≡ told (λ _. 0) (λ (why : paper.Refusal). why .number) o
   pub value : v ≡ told of (λ (why : paper.Refusal). why .value) o
 
--- a limit crosses as whether there is one, and which
+-- a limit crosses as a flag and a number
 abbrev pub limitOf : Bool → ℕ → Limit
 limitOf limited n = cond limited (AtMost n) None
 

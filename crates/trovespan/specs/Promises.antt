@@ -23,7 +23,7 @@ use Rattle.decode.specs.Decode.{DecodeStop, decodedEntries, decoding}
 use Rattle.numbers.specs.declared.number.Number.{Number}
 use Rattle.trovespan.specs.Crossing.{told, Tells, opcodeOf, firstOf, secondOf, nextOf, placeOr0}
 
--- ---- the container. A number that a refusal has nothing to tell by is 0
+-- ---- the container. Where a refusal has nothing to say, the number is 0
 pub record Opens (f : File) (len r value used : ℕ) : Type 0 where
   pub answer : Tells (opening f len) (λ (c : Container). c .size) r value
   pub used-told : used ≡ told (λ (c : Container). c .used) (λ _. 0) (opening f len)
@@ -31,7 +31,7 @@ pub record Opens (f : File) (len r value used : ℕ) : Type 0 where
 pub record Counts (f : File) (len r value : ℕ) : Type 0 where
   pub answer : Tells (streamCount f len) (λ n. n) r value
 
--- (of what mapping answers on paper)
+-- (o is what mapping answers)
 pub record MapsOf (f : File) (o : Outcome paper.Refusal Placed) (offsets sizes : List ℕ)
     (r value total : ℕ) (offsets′ sizes′ : List ℕ) : Type 0 where
   pub answer : Tells (mapped f o) (λ (m : Mapped). m .slices) r value
@@ -52,7 +52,7 @@ pub record Numbers (s : List ℕ) (at r value next : ℕ) : Type 0 where
   pub answer : Tells (raise (λ (x : Stop). x .refusal) (numberAt s at)) (λ (n : Number). n .value) r value
   pub next-told : next ≡ told (λ (n : Number). n .next) (λ (x : Stop). x .place) (numberAt s at)
 
--- (of what a step answers on paper)
+-- (o is what the step answers)
 pub record StepsOf (o : Outcome Stop Stepped) (r value : ℕ) (first second : ℤ) (next : ℕ) : Type 0 where
   pub answer : Tells (raise (λ (x : Stop). x .refusal) o) opcodeOf r value
   pub first-told : first ≡ told firstOf (λ (_ : Stop). pos 0) o
@@ -62,7 +62,7 @@ pub record StepsOf (o : Outcome Stop Stepped) (r value : ℕ) (first second : �
 abbrev pub Steps : List ℕ → ℕ → ℕ → ℕ → ℤ → ℤ → ℕ → Type 0
 Steps s at = StepsOf (stepAt s at)
 
--- (of what decoding all answers on paper)
+-- (o is what decoding all answers)
 pub record DecodesOf (s : List ℕ) (o : Outcome DecodeStop ℕ) (store : List ℤ)
     (r value place : ℕ) (store′ : List ℤ) : Type 0 where
   pub answer : Tells (raise (λ (x : DecodeStop). x .refusal) o) (λ n. n) r value

@@ -1,4 +1,4 @@
--- What holds of the exported functions beyond their promises. proofs/Statements.antt proves each record.
+-- Statements about the exported functions beyond their promises. proofs/Statements.antt proves each record.
 use mathlib.Core.List.{List}
 use Prim.Native.Nat.{ℕ, _<_}
 use lib.IntN.{ℤ}
@@ -13,7 +13,7 @@ use Rattle.annotations.specs.declared.annotation.BinaryAnnotation.{BinaryAnnota
 use Rattle.msf.specs.declared.limit.Limit.{Limit}
 use Rattle.trovespan.specs.Promises.{Opens, Counts, Maps, Extracts, Numbers, Steps, Decodes}
 
--- no other numbers, and no other stores, satisfy a promise. (All that a function gives stands in one tuple.)
+-- no other numbers, and no other stores, satisfy a promise. (All that a function gives is one tuple.)
 pub record SingleValued : Type 0 where
   pub opening : (f : File) (len : ℕ) → Only (λ (o : ℕ × ℕ × ℕ). Opens f len (o .0) (o .1) (o .2))
   pub stream-count : (f : File) (len : ℕ) → Only (λ (o : ℕ × ℕ). Counts f len (o .0) (o .1))
@@ -26,7 +26,7 @@ pub record SingleValued : Type 0 where
   pub decode : (s : List ℕ) (store : List ℤ)
       → Only (λ (o : ℕ × ℕ × ℕ × List ℤ). Decodes s store (o .0) (o .1) (o .2) (o .3))
 
--- not 0, which says that nothing is refused or, of an opcode, that the end is reached
+-- not 0, which stands for success or, as an opcode, for the end
 abbrev pub NotZero : ℕ → Type 0
 NotZero n = 0 < n
 
@@ -34,7 +34,7 @@ NotZero n = 0 < n
 abbrev pub BelowNoRoom : ℕ → Type 0
 BelowNoRoom n = n < 10
 
--- what a caller tells answers apart by
+-- how a caller tells answers apart
 pub record Apart : Type 0 where
   pub container-refusal : (why : why-container.Refusal) → NotZero (container.refusalIn why .number)
   pub annotations-refusal : (why : why-annotations.Refusal) → NotZero (annotations.refusalIn why .number)

@@ -1,9 +1,9 @@
-// The static library that Rust and C link: each operation as a C function over numbers and slices (a slice crosses as a
-// pointer and a length).
+// The static library that Rust and C link: each operation as a C function over numbers and slices. A slice crosses as a
+// pointer and a length.
 //
-// Each returns 0 where the operation accepts, else the refusal's number in document 01's table, and writes what else there
-// is to tell to the numbers that it is lent; where it refuses, `value` is the refusal's value. A number with nothing to
-// tell is 0. Nothing is asked of a caller but that what is lent is there and does not overlap.
+// Each function returns 0 on success, else the refusal's number in document 01's table. It writes its other results to
+// the numbers that it is lent: on a refusal `value` is the refusal's value, and a number that has nothing to say is 0.
+// The caller guarantees that what it lends is there and does not overlap, and nothing else.
 use annotations::Step;
 use annotations::step_at;
 use decode::Decoded;
@@ -23,7 +23,7 @@ ghost use Rattle.trovespan.specs.Crossing.{limitOf};
 ghost use Rattle.trovespan.specs.Promises.{Opens, Counts, Maps, Extracts, Numbers, Steps, Decodes};
 ghost use Rattle.trovespan.specs.Statements.{SingleValued, Apart};
 
-// What is returned where nothing is refused; no refusal has this number.
+// Returned on success. No refusal has this number.
 const ACCEPTED: u32 = 0;
 
 // The refusal of a store that is too small.
@@ -50,7 +50,7 @@ pub extern "C" fn trovespan_open(file: &[u8], value: &mut u64, used: &mut u64) -
     }
 }
 
-// `value` is how many streams there are.
+// `value` is the number of streams.
 #[no_mangle]
 pub extern "C" fn trovespan_stream_count(file: &[u8], value: &mut u64) -> u32
     ensures { λ r. ⌜ Counts (byteAt (now (file .entry))) (length (now (file .entry))) r (now (value .exit)) ⌝ }
@@ -67,7 +67,7 @@ pub extern "C" fn trovespan_stream_count(file: &[u8], value: &mut u64) -> u32
     }
 }
 
-// `value` is how many slices there are, `total` how many bytes they have. `limit` counts only where `limited`.
+// `value` is the number of slices, `total` the number of their bytes. `limit` is used only if `limited`.
 #[no_mangle]
 pub extern "C" fn trovespan_map(
     file: &[u8],
@@ -105,7 +105,7 @@ pub extern "C" fn trovespan_map(
     }
 }
 
-// `value` is how many bytes were written. `limit` counts only where `limited`.
+// `value` is the number of bytes written. `limit` is used only if `limited`.
 #[no_mangle]
 pub extern "C" fn trovespan_extract(
     file: &[u8],
@@ -132,7 +132,7 @@ pub extern "C" fn trovespan_extract(
     }
 }
 
-// `value` is the number, `next` the place after it, or after its refusal.
+// `value` is the number, `next` the place after it or after its refusal.
 #[no_mangle]
 pub extern "C" fn trovespan_number(bytes: &[u8], at: usize, value: &mut u64, next: &mut u64) -> u32
     ensures { λ r. ⌜ Numbers (now (bytes .entry)) at r (now (value .exit)) (now (next .exit)) ⌝ }
@@ -152,8 +152,8 @@ pub extern "C" fn trovespan_number(bytes: &[u8], at: usize, value: &mut u64, nex
     }
 }
 
-// `value` is the annotation's opcode, 1 to 13, or 0 at the end; `first` and `second` are its operands; `next` is the place
-// after the annotation, the end or the refusal.
+// `value` is the annotation's opcode, 1 to 13, or 0 at the end. `first` and `second` are its operands. `next` is the
+// place after the annotation, the end or the refusal.
 #[no_mangle]
 pub extern "C" fn trovespan_step(
     bytes: &[u8],
@@ -197,7 +197,7 @@ pub extern "C" fn trovespan_step(
     }
 }
 
-// `value` is how many annotations there are, `place` the place after a refusal; refusal 10 has none.
+// `value` is the number of annotations, `place` the place after a refusal. Refusal 10 has no place.
 #[no_mangle]
 pub extern "C" fn trovespan_decode(
     bytes: &[u8],
@@ -229,6 +229,7 @@ pub extern "C" fn trovespan_decode(
     }
 }
 
+// The limit, if there is one.
 fn limit_of(limited: bool, limit: usize) -> Limit
     ensures { λ r. ⌜ r ≡ limitOf limited limit ⌝ }
 {
@@ -238,7 +239,7 @@ fn limit_of(limited: bool, limit: usize) -> Limit
     Limit::None
 }
 
-// Each statement of this crate, as a promise that must be proved: none can vanish unnoticed.
+// Promises each statement of this crate, so that none can be dropped unnoticed.
 pub fn proved()
     ensures { λ r. ⌜ SingleValued ⌝ }
     ensures { λ r. ⌜ Apart ⌝ }

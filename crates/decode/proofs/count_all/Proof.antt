@@ -1,5 +1,5 @@
--- The invariant: n annotations are counted, and the rest follow from `at`; what is left of the bytes falls, since a step moves.
--- Assumes nothing.
+-- The invariant: n annotations are counted, and the rest follow from `at`. The measure is the number of bytes left,
+-- which each annotation lowers. Assumes nothing.
 use Prim.Native.Nat.{_-_}
 use borrow.Author.Needs.{needs}
 use lib.ListN.{length}

@@ -1,5 +1,5 @@
--- Everything is judged before a store is written: one law of `DecodeLaws` for each way out. Three times the count fits, since
--- there are at most half as many annotations as bytes. Assumes nothing.
+-- The count and the room are judged before anything is written, in the order of `decoding`, so a refusal leaves the
+-- store. The entries needed fit a usize, since there are at most half as many annotations as bytes. Assumes nothing.
 use native.Mathlib.Omega.{arith}
 use borrow.Author.Needs.{needs}
 use Rattle.decode.proofs.DecodeLaws.{decode-cases, room, few}

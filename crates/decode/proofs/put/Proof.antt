@@ -1,5 +1,5 @@
--- Three stores, within the length, are `sets` of the three entries.
--- Assumes that three entries fit.
+-- One store for each entry, at consecutive places, is `sets` of the entries.
+-- Assumes room for them.
 use native.Mathlib.Omega.{arith}
 use borrow.Author.Needs.{needs}
 use lib.ListN.{length-set}

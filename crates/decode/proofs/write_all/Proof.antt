@@ -1,5 +1,5 @@
--- The invariant: writing the rest from entry i on gives the store that is wanted; what is left of the bytes falls.
--- Assumes that all entries fit.
+-- The invariant: writing the rest from entry i on gives the wanted store. The measure is the number of bytes left,
+-- which each annotation lowers. Assumes room for all entries.
 use Prim.Native.Nat.{_-_}
 use borrow.Author.Needs.{needs}
 use lib.ListN.{length}

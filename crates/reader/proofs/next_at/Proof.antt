@@ -1,7 +1,6 @@
--- `reader::next_at` meets its contract: a walk of its MIR, by hand. The reader that `new` makes is put in a local and moved to the
--- place, lent to `next` for a lifetime within the bytes', and comes back as `next` left it; its place is read. All that the proof
--- knows of `new` and of `next` is that each meets its contract.
--- Assumes nothing.
+-- `reader::next_at` meets its contract: a walk of its MIR by hand. The reader that `new` makes is put in a local and
+-- moved to the place. It is lent to `next` for a lifetime within that of the bytes, and comes back as `next` left it;
+-- then its place is read. Of `new` and `next` the proof uses only that each meets its contract. Assumes nothing.
 use mathlib.Core.Path.{refl, _∙_, ap, subst}
 use Prim.Native.Nat.{ℕ, _<_, _^_}
 use mathlib.Core.List.{List, [], _∷_}

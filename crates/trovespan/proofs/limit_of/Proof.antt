@@ -1,4 +1,4 @@
--- A limit where there is one, and none else.
+-- The test is that of `limitOf`.
 -- Assumes nothing.
 use borrow.Author.Needs.{needs}
 use Rattle.trovespan.proofs.limit_of.Statement.{statement}

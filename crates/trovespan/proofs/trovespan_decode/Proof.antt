@@ -1,4 +1,4 @@
--- One law of `AnnotationLaws` for each way out.
+-- `decode_all` promises the answer of `decoding`. Each arm knows the variant and writes its numbers as `Decodes` says.
 -- Assumes nothing.
 use borrow.Author.Needs.{needs}
 use Rattle.trovespan.proofs.AnnotationLaws.{decode-cases}

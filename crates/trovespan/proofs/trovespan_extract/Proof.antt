@@ -1,5 +1,5 @@
--- One law of `ContainerLaws` for each way out.
--- Assumes nothing.
+-- `msf::extract` promises the answer of `extraction`. Each arm knows the variant and writes its numbers as `Extracts`
+-- says. Assumes nothing.
 use borrow.Author.Needs.{needs}
 use Rattle.trovespan.proofs.ContainerLaws.{extract-cases}
 use Rattle.trovespan.proofs.trovespan_extract.Statement.{statement}

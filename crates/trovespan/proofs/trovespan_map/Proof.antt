@@ -1,4 +1,4 @@
--- One law of `ContainerLaws` for each way out.
+-- `msf::map` promises the answer of `mapping`. Each arm knows the variant and writes its numbers as `Maps` says.
 -- Assumes nothing.
 use borrow.Author.Needs.{needs}
 use Rattle.trovespan.proofs.ContainerLaws.{map-cases}

@@ -1,5 +1,5 @@
--- One law of `AnnotationLaws` for each way out.
--- Assumes nothing.
+-- `uncompress_next` promises the answer of `numberAt`. Each arm knows the variant and writes its numbers as `Numbers`
+-- says. Assumes nothing.
 use borrow.Author.Needs.{needs}
 use Rattle.trovespan.proofs.AnnotationLaws.{number-cases}
 use Rattle.trovespan.proofs.trovespan_number.Statement.{statement}

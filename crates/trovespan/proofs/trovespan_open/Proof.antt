@@ -1,4 +1,4 @@
--- One law of `ContainerLaws` for each way out.
+-- `msf::open` promises the answer of `opening`. Each arm knows the variant and writes its numbers as `Opens` says.
 -- Assumes nothing.
 use borrow.Author.Needs.{needs}
 use Rattle.trovespan.proofs.ContainerLaws.{open-cases}

@@ -1,5 +1,5 @@
--- One law of `AnnotationLaws` for each way out. A signed number that was stored is read back as it was (`toZ-ofZ`).
--- Assumes nothing.
+-- `step_at` promises the answer of `stepAt`. Each arm knows the variant and writes its numbers as `Steps` says. A
+-- signed number that was stored is read back as it was (`toZ-ofZ`). Assumes nothing.
 use borrow.Author.Needs.{needs}
 use mir.Facts.{toZ-ofZ}
 use Rattle.trovespan.proofs.AnnotationLaws.{step-cases}

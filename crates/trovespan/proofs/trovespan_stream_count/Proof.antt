@@ -1,5 +1,5 @@
--- One law of `ContainerLaws` for each way out.
--- Assumes nothing.
+-- `msf::stream_count` promises the answer of `streamCount`. Each arm knows the variant and writes its numbers as
+-- `Counts` says. Assumes nothing.
 use borrow.Author.Needs.{needs}
 use Rattle.trovespan.proofs.ContainerLaws.{count-cases}
 use Rattle.trovespan.proofs.trovespan_stream_count.Statement.{statement}

@@ -1,4 +1,4 @@
--- Each arm gives what `whyCountedAll` computes of its variant.
+-- The arms are the clauses of `whyCountedAll`.
 -- Assumes nothing.
 use borrow.Author.Needs.{needs}
 use Rattle.decode.proofs.CountedAll.why.Statement.{statement}

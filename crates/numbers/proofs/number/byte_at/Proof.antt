@@ -1,4 +1,4 @@
--- The slice's element, which is below 256 as every byte is.
+-- The result is the slice's element, and every byte is below 256.
 -- Assumes that the place is within the bytes.
 use mathlib.Core.Path.{refl}
 use native.Mathlib.Omega.{arith}

@@ -1,4 +1,4 @@
--- One law of `NumberLaws` for each way out, whose premises are the tests on the way there.
+-- The tests are those of `numberAt` in the same order, so each return gives its answer under the tests passed so far.
 -- Assumes nothing.
 use borrow.Author.Needs.{needs}
 use Rattle.numbers.proofs.NumberLaws.{number-cases}

@@ -1,6 +1,6 @@
--- `BinaryAnnotationsIter::new` meets its contract: a walk of its MIR, by hand. The reader is made of the slice passed and 0, in the
--- result's local. A `&[u8]` is Copy, so what it owns is had twice: once for `bytes` at exit, and once inside the result.
--- Assumes nothing.
+-- `BinaryAnnotationsIter::new` meets its contract: a walk of its MIR by hand. The result holds the slice passed and 0.
+-- A `&[u8]` is Copy, so what it owns is there twice: once for `bytes` at exit, and once inside the result. Assumes
+-- nothing.
 use mathlib.Core.Path.{refl}
 use Prim.Native.Nat.{ℕ}
 use mathlib.Core.List.{List, [], _∷_}

@@ -1,9 +1,9 @@
--- `BinaryAnnotationsIter::next` meets its contract: a walk of its MIR, by hand. The borrow of the reader is opened, `step_at` is called
--- on the bytes and the place that it holds, `place_after` on the answer, the place is set to that, and the borrow is closed at the
--- record with that place. All that the proof knows of the two is that each meets its contract.
--- The struct is Copy: what it owns is had twice. Of one copy what `bytes` owns goes to `step_at`, beside the token of its lifetime,
--- which comes back; the other is kept, and its place is made anew. A step is plain data: what it owns is made anew where it is asked.
--- Assumes nothing.
+-- `BinaryAnnotationsIter::next` meets its contract: a walk of its MIR by hand. The borrow of the reader is opened,
+-- `step_at` is called on its bytes and its place, `place_after` on the answer, the place is set to that, and the borrow
+-- is closed at the record with the new place. Of the two functions the proof uses only that each meets its contract.
+-- The struct is Copy, so what it owns is there twice: of one copy, what `bytes` owns goes to `step_at` beside the token
+-- of its lifetime, which comes back; the other is kept, and its place is made anew. A step is plain data: what it owns
+-- is made anew where it is needed. Assumes nothing.
 use mathlib.Core.Path.{_≡_, refl, _∙_, ap}
 use Prim.Native.Nat.{ℕ, _<_, _^_}
 use mathlib.Core.List.{List, [], _∷_}

@@ -1,5 +1,5 @@
--- `replay_annotations::ask::rooms` is safe and ends. The store keeps its length. The measure is the number of rooms that
--- are left. Assumes nothing.
+-- `replay_annotations::ask::rooms` is safe and ends. The store keeps its length. The measure is the number of rooms
+-- that are left. Assumes nothing.
 use mathlib.Core.Path.{_≡_}
 use Prim.Native.Nat.{_+_, _-_}
 use native.Mathlib.Omega.{arith}

@@ -1,4 +1,4 @@
--- Each arm gives what `whyUncompressed` computes of its variant.
+-- The arms are the clauses of `whyUncompressed`.
 -- Assumes nothing.
 use borrow.Author.Needs.{needs}
 use Rattle.numbers.proofs.number.Uncompressed.why.Statement.{statement}
