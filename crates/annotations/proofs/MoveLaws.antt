@@ -11,12 +11,12 @@ use Rattle.outcome.proofs.OutcomeLaws.{by-test}
 use Rattle.numbers.specs.Refusal.{Stop}
 use Rattle.numbers.specs.Number.{numberAt}
 use Rattle.numbers.proofs.MoveLaws.{NumberMoves, value, none, number-moves}
-use Rattle.annotations.specs.Step.{Found, Stepped, annotation, end, operands, stepAt}
+use Rattle.annotations.specs.Step.{PlacedTriple, Stepped, annotation, end, operands, stepAt}
 use Rattle.numbers.specs.declared.number.Number.{Number}
 
 -- (By `data`, as `NumberMoves` is.)
 pub data StepMoves (s : List ℕ) (from : ℕ) : Outcome Stop Stepped → Type 0 where
-  found : {x : Found} → from + 2 ≤ x .next → x .next ≤ length s → StepMoves s from (ok (annotation x))
+  found : {x : PlacedTriple} → from + 2 ≤ x .next → x .next ≤ length s → StepMoves s from (ok (annotation x))
   ended : {p : ℕ} → StepMoves s from (ok (end p))
   stopped : {why : Stop} → StepMoves s from (refused why)
 
@@ -52,7 +52,7 @@ pub record Advanced (s : List ℕ) (at p : ℕ) : Type 0 where
   pub past : at + 2 ≤ p
   pub within : p ≤ length s
 
-module _ (s : List ℕ) (at : ℕ) {x : Found} (e : stepAt s at ≡ ok (annotation x)) where
+module _ (s : List ℕ) (at : ℕ) {x : PlacedTriple} (e : stepAt s at ≡ ok (annotation x)) where
   pub advanced : Advanced s at (x .next)
   advanced = go _ (subst (StepMoves s at) e (step-moves s at)) refl
     where

@@ -15,7 +15,7 @@ use Rattle.outcome.proofs.OnlyLaws.{only, only₂}
 use Rattle.numbers.specs.Refusal.{Stop, stop}
 use Rattle.numbers.specs.Number.{numberAt}
 use Rattle.annotations.specs.Signed.{signedOf}
-use Rattle.annotations.specs.Step.{Found, Stepped, stepAt}
+use Rattle.annotations.specs.Step.{PlacedTriple, Stepped, stepAt}
 use Rattle.decode.specs.Decode.{Run, onStep, runFrom, rest, decodeAll, entriesEach, noRoom, withPlace, decoding}
 use Rattle.numbers.specs.Promises.{uncompressedIn}
 use Rattle.annotations.specs.Promises.{stepIn}
@@ -159,7 +159,7 @@ closes-rest : (s : List ℕ) (at : ℕ) (last : Outcome Stop ℕ) → stepAt s a
 closes-rest s at (ok place) e = sym (rest-end s at e)
 closes-rest s at (refused why) e = sym (rest-refused s at e)
 
-steps-rest : {s : List ℕ} {at e : ℕ} {l : List Found} (last : Outcome Stop ℕ) → StepsTo s at l e → stepAt s e ≡ closing last → record { found = l; at = e; last = last } ≡ rest s at
+steps-rest : {s : List ℕ} {at e : ℕ} {l : List PlacedTriple} (last : Outcome Stop ℕ) → StepsTo s at l e → stepAt s e ≡ closing last → record { found = l; at = e; last = last } ≡ rest s at
 steps-rest {s} {at} last StepsTo.none c = closes-rest s at last c
 steps-rest {s} {at} last (StepsTo.more {x = x} e r) c =
     ap (λ (q : Run). record { found = x ∷ q .found; at = q .at; last = q .last }) (steps-rest last r c) ∙ sym (rest-on s at e)

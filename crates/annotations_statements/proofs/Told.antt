@@ -107,7 +107,7 @@ step-is (step.Annotation a) = rw (triple-is (a .annotation))
 step-is (step.End place) = refl
 step-is (step.Refused why) = ap step.Refused (stop-is why)
 
--- (10 is told by its having no place)
+-- (10 is the refusal without a place)
 abbrev decoded-back : Outcome DecodeStop ℕ → Decoded
 decoded-back (ok n) = decoded.Count n
 decoded-back (refused why) = elim (why .place) [ none ↦ decoded.NoRoom (why .refusal .value) | some place ↦ decoded.Refused (stop-back (record { refusal = why .refusal; place = place })) ]

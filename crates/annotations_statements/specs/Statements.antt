@@ -13,7 +13,7 @@ use Rattle.numbers.specs.Refusal.{Stop, stop, refusalIn}
 use Rattle.numbers.specs.Number.{numberAt}
 use Rattle.annotations.specs.Signed.{signedOf}
 use Rattle.annotations.specs.Annotation.{tripleIn}
-use Rattle.annotations.specs.Step.{Found, Stepped, annotation, end, stepAt}
+use Rattle.annotations.specs.Step.{PlacedTriple, Stepped, annotation, end, stepAt}
 use Rattle.decode.specs.Decode.{Run, decodeAll, entriesEach, decoding}
 use Rattle.numbers.specs.Promises.{uncompressedIn, Uncompressing}
 use Rattle.annotations.specs.Promises.{stepIn, Stepping}
@@ -63,9 +63,9 @@ pub record NumberExactly : Type 0 where
   pub is : (s : List ℕ) (at : ℕ) → Exactly s at (numberAt s at)
 
 -- steps from one place to another, which answer these annotations
-pub data StepsTo (s : List ℕ) : ℕ → List Found → ℕ → Type 0 where
+pub data StepsTo (s : List ℕ) : ℕ → List PlacedTriple → ℕ → Type 0 where
   none : {at : ℕ} → StepsTo s at [] at
-  more : {at last : ℕ} {x : Found} {later : List Found} → stepAt s at ≡ ok (annotation x)
+  more : {at last : ℕ} {x : PlacedTriple} {later : List PlacedTriple} → stepAt s at ≡ ok (annotation x)
       → StepsTo s (x .next) later last → StepsTo s at (x ∷ later) last
 
 -- the last step of a run: the end, or a refusal

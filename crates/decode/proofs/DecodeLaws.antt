@@ -16,7 +16,7 @@ use Rattle.outcome.specs.Outcome.{Outcome, ok, refused, _>>=_, _>>_, require, r
 use Rattle.outcome.specs.Store.{written}
 use Rattle.numbers.specs.Refusal.{Stop, stopIn}
 use Rattle.annotations.specs.Annotation.{tripleIn}
-use Rattle.annotations.specs.Step.{Found, annotation, end, stepAt}
+use Rattle.annotations.specs.Step.{PlacedTriple, annotation, end, stepAt}
 use Rattle.decode.specs.Decode.{Run, rest, decodeAll, entriesEach, tripleEntries, entries, decodedEntries, counted, decoding}
 use Rattle.decode.specs.Inner.{CountingAll, countedAllIn, whyCountedAll}
 use Rattle.annotations.specs.Promises.{stepIn, Stepping}
@@ -35,7 +35,7 @@ use Rattle.decode.specs.declared.Decoded.{Decoded}
 use Rattle.decode.specs.declared.Decoded.the-variants.{Count, Refused, NoRoom}
 
 -- ---- what a step's promise says once its variant is known
-abbrev foundIn : Annotated → Found
+abbrev foundIn : Annotated → PlacedTriple
 foundIn a = record { triple = tripleIn (a .annotation); next = a .next }
 
 module _ {s : List ℕ} {at : ℕ} {x : Step} (p : Stepping s at x) where
@@ -54,7 +54,7 @@ module _ {s : List ℕ} {at : ℕ} {x : Step} (p : Stepping s at x) where
   step-advanced : {a : Annotated} → x ≡ step.Annotation a → Advanced s at (a .next)
   step-advanced e = advanced s at (stepped e)
 
-  -- what is left of the bytes falls
+  -- fewer bytes are left
   pub step-less : {a : Annotated} → x ≡ step.Annotation a → length s - a .next < length s - at
   step-less e = let m = step-advanced e in omega arith
 
@@ -138,12 +138,12 @@ module _ {s : List ℕ} {st₀ st : List ℤ} {at i : ℕ} {x : Step} (w : Writt
 
 pub ruleset write-cases = (step-less, write-none, write-room, write-more, write-end, write-refused)
 
--- the three stores of `put`
+-- the stores of `put`, one for each entry
 pub put-is : (st : List ℤ) (at : ℕ) (y z : ℤ) {x w : ℤ} → x ≡ w → mag x < 2 ^ 63 → mag y < 2 ^ 63 → mag z < 2 ^ 63 → set (set (set st at (toZ w64 (ofZ w64 x))) (at + 1) (toZ w64 (ofZ w64 y))) (at + 2) (toZ w64 (ofZ w64 z)) ≡ sets st at (w ∷ y ∷ z ∷ [])
 put-is st at y z e p q r = rw (stored p, stored q, stored r, e, add-one, add-two)
 
 -- ---- the returns of `decode_all`
-length-entries : (l : List Found) → length (entries l) ≡ entriesEach * length l
+length-entries : (l : List PlacedTriple) → length (entries l) ≡ entriesEach * length l
 unfolding entries
 length-entries [] = refl
 length-entries (x ∷ l) = rw length-append (omega (arith, length-entries l))

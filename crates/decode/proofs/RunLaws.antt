@@ -6,7 +6,7 @@ use native.Mathlib.Omega.{arith}
 use lib.ListN.{length}
 use Rattle.outcome.specs.Outcome.{Outcome, ok, refused}
 use Rattle.numbers.specs.Refusal.{Stop}
-use Rattle.annotations.specs.Step.{Found, Stepped, annotation, end, stepAt}
+use Rattle.annotations.specs.Step.{PlacedTriple, Stepped, annotation, end, stepAt}
 use Rattle.decode.specs.Decode.{Run, onStep, runFrom, rest, decodeAll}
 use Rattle.annotations.proofs.MoveLaws.{StepMoves, found, ended, stopped, step-moves, advanced}
 
@@ -25,7 +25,7 @@ enough s (suc m) (suc n) at h k =
     on-same (step-moves s at) (λ p l l′. enough s m n p (omega arith) (omega arith))
 
 module _ (s : List ℕ) (at : ℕ) where
-  pub rest-on : {x : Found} → stepAt s at ≡ ok (annotation x) → rest s at ≡ record { found = x ∷ rest s (x .next) .found; at = rest s (x .next) .at; last = rest s (x .next) .last }
+  pub rest-on : {x : PlacedTriple} → stepAt s at ≡ ok (annotation x) → rest s at ≡ record { found = x ∷ rest s (x .next) .found; at = rest s (x .next) .at; last = rest s (x .next) .last }
   unfolding rest runFrom onStep
   rest-on {x} e =
       let m = advanced s at e in

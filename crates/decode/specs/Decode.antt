@@ -8,12 +8,12 @@ use lib.IntN.{ℤ, pos}
 use Rattle.outcome.specs.Outcome.{Outcome, ok, refused, _>>=_, _>>_, require, raise}
 use Rattle.outcome.specs.Refusal as paper
 use Rattle.numbers.specs.Refusal.{Stop}
-use Rattle.annotations.specs.Step.{Found, Stepped, annotation, end, stepAt}
+use Rattle.annotations.specs.Step.{PlacedTriple, Stepped, annotation, end, stepAt}
 use Rattle.annotations.specs.declared.annotation.Triple.{Triple}
 
 -- a run of steps: what was found, where the last step was taken, and its answer: the end with its place, or a refusal
 pub record Run : Type 0 where
-  pub found : List Found
+  pub found : List PlacedTriple
   pub at : ℕ
   pub last : Outcome Stop ℕ
 
@@ -45,10 +45,10 @@ abbrev pub tripleEntries : Triple → List ℤ
 tripleEntries t = pos (t .opcode) ∷ t .first ∷ t .second ∷ []
 
 -- the entries of one annotation, of several, and of all that the bytes hold
-abbrev pub entriesOf : Found → List ℤ
+abbrev pub entriesOf : PlacedTriple → List ℤ
 entriesOf x = tripleEntries (x .triple)
 
-unfoldable pub entries : List Found → List ℤ
+unfoldable pub entries : List PlacedTriple → List ℤ
 entries [] = []
 entries (x ∷ later) = entriesOf x ++ entries later
 

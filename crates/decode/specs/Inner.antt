@@ -10,6 +10,7 @@ use Rattle.decode.specs.Decode.{counted, decodeAll}
 use Rattle.decode.specs.declared.CountedAll.{CountedAll}
 use Rattle.decode.specs.declared.CountedAll.the-variants.{All, Refused}
 
+-- what the answer says on paper
 unfoldable pub countedAllIn : CountedAll → Outcome Stop ℕ
 countedAllIn (All n) = ok n
 countedAllIn (Refused why) = refused (stopIn why)
@@ -18,7 +19,7 @@ countedAllIn (Refused why) = refused (stopIn why)
 pub record CountingAll (s : List ℕ) (r : CountedAll) : Type 0 where
   pub answer : countedAllIn r ≡ counted (decodeAll s)
 
--- why nothing was counted; of a count it is never asked
+-- why nothing was counted. Callers ask it of a refusal only
 abbrev pub whyCountedAll : CountedAll → PlacedRefusal
 whyCountedAll (Refused why) = why
 whyCountedAll (All n) = record { refusal = ShortData; place = 0 }

@@ -31,7 +31,7 @@ pub(crate) enum CountedAll {
 }
 
 impl CountedAll {
-    // Why nothing was counted. Only asked of a refusal.
+    // Why nothing was counted. Callers ask it of a refusal only.
     fn why(self) -> PlacedRefusal
         ensures { λ r. ⌜ r ≡ whyCountedAll self ⌝ }
     {

@@ -13,7 +13,7 @@ pub record Byte (s : List ℕ) (at b : ℕ) : Type 0 where
   pub is : b ≡ getD s at 0
   pub small : b < 256
 
--- why there is no number; of a value it is never asked
+-- why there is no number. Callers ask it of a refusal only
 abbrev pub whyUncompressed : Uncompressed → PlacedRefusal
 whyUncompressed (Refused why) = why
 whyUncompressed (Value n) = record { refusal = ShortData; place = 0 }

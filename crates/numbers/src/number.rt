@@ -21,7 +21,7 @@ pub enum Uncompressed {
 }
 
 impl Uncompressed {
-    // Why there is no number. Only asked of a refusal.
+    // Why there is no number. Callers ask it of a refusal only.
     pub fn why(self) -> PlacedRefusal
         ensures { λ r. ⌜ r ≡ whyUncompressed self ⌝ }
     {

@@ -11,12 +11,12 @@ use Rattle.outcome.specs.Outcome.{Outcome, ok, refused, _>>=_, _>>_, require}
 use Rattle.outcome.proofs.OutcomeLaws.{by-test}
 use Rattle.numbers.specs.Refusal.{Stop}
 use Rattle.numbers.specs.Number.{numberAt}
-use Rattle.annotations.specs.Step.{Found, Stepped, annotation, end, operands, stepAt}
+use Rattle.annotations.specs.Step.{PlacedTriple, Stepped, annotation, end, operands, stepAt}
 use Rattle.numbers.specs.declared.number.Number.{Number}
 
 -- if the answer is an end, its place is the length
 pub data EndsAt (s : List ℕ) : Outcome Stop Stepped → Type 0 where
-  found : {x : Found} → EndsAt s (ok (annotation x))
+  found : {x : PlacedTriple} → EndsAt s (ok (annotation x))
   ended : EndsAt s (ok (end (length s)))
   stopped : {why : Stop} → EndsAt s (refused why)
 

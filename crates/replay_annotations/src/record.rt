@@ -8,8 +8,7 @@ use replay::word;
 // How many bytes a record may have.
 pub const LONGEST: usize = 4096;
 
-// How many entries a store may have: one more than all annotations of that many bytes take. Each has at least two
-// bytes.
+// The most entries of a store: one more than the annotations of so many bytes take. Each has at least two bytes.
 pub const LARGEST_ROOM: usize = LONGEST / 2 * ENTRIES_EACH + 1;
 
 pub struct Header {

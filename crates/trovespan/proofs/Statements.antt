@@ -12,7 +12,7 @@ use Rattle.annotations.specs.declared.annotation.BinaryAnnotation.{BinaryAnnota
 use Rattle.annotations.specs.declared.annotation.BinaryAnnotation.the-variants as annotation
 use Rattle.trovespan.specs.Statements.{SingleValued, NotZero, BelowNoRoom, Apart}
 
--- two things that are said to be one third are equal
+-- two things that equal a third are equal
 same : {A : Type 0} {x y z : A} → x ≡ z → y ≡ z → x ≡ y
 same e g = e ∙ sym g
 
