@@ -4,15 +4,16 @@ use mathlib.Core.Path.{sym, _∙_}
 use mathlib.Core.List.{List}
 use Prim.Native.Nat.{ℕ, min}
 use lib.ListN.{length}
+use Rattle.outcome.proofs.OutcomeLaws.{written-same}
 use Rattle.parse_buffer.specs.Bytes.{File}
 use Rattle.slices.specs.declared.SourceSlice.{SourceSlice}
 use Rattle.msf.specs.Extraction.{bytesIn}
 use Rattle.extent.specs.declared.limit.Limit.{Limit}
 use Rattle.trovespan.specs.Promises.{Opens, Counts, Maps, Extracts}
 use Rattle.trovespan.proofs.Statements.{single-valued}
-use Rattle.isolation.specs.Listed.{ListedOpen, ListedCount, Listed, ListedBytes, Agree}
+use Rattle.isolation.specs.Listed.{ListedOpen, ListedCount, ListedMap, ListedBytes, Agree}
 use Rattle.isolation.specs.Boundary.{Boundary}
-use Rattle.isolation.proofs.Same.{written-same, streamCount-same}
+use Rattle.isolation.proofs.Same.{streamCount-same}
 use Rattle.isolation.proofs.StreamSame.{extraction-same, extracted-bytes}
 use Rattle.isolation.proofs.Isolation.{opening-same, mapped-same, slices-same}
 
@@ -25,7 +26,7 @@ module _ (f g : File) (len : ℕ) where
   counts-as : Agree (ListedCount f len) f g → (r v : ℕ) → Counts g len r v → Counts f len r v
   counts-as agree r v p = record { answer = rw (streamCount-same f g len agree) (p .answer) }
 
-  maps-as : (k : ℕ) (limit : Limit) → Agree (Listed f len k) f g → (offsets sizes : List ℕ) (r v u : ℕ) (o t : List ℕ) → Maps g len k limit offsets sizes r v u o t → Maps f len k limit offsets sizes r v u o t
+  maps-as : (k : ℕ) (limit : Limit) → Agree (ListedMap f len k) f g → (offsets sizes : List ℕ) (r v u : ℕ) (o t : List ℕ) → Maps g len k limit offsets sizes r v u o t → Maps f len k limit offsets sizes r v u o t
   maps-as k limit agree offsets sizes r v u o t p =
       let room : ℕ = min (length offsets) (length sizes) in
       let same = mapped-same f g len k limit agree room in

@@ -17,13 +17,13 @@ use Rattle.directory.specs.Directory.{reached}
 use Rattle.stream.specs.Stream.{ownPage, ownPages}
 use Rattle.stream.proofs.FindLaws.{found-at}
 use Rattle.extent.specs.declared.limit.Limit.{Limit}
-use Rattle.isolation.specs.Listed.{ListedOpen, ListedCount, Listed, ListedBytes, Agree}
+use Rattle.isolation.specs.Listed.{ListedOpen, ListedCount, ListedMap, ListedBytes, Agree}
 use Rattle.isolation.specs.NamedExactly.{InPages}
 use Rattle.isolation.specs.Corollaries.{Alike, DifferOnlyAt, OffTheLists, Elsewhere, Corollaries}
-use Rattle.isolation.proofs.PassedLaws.{located-checked, located-header, reached-at}
+use Rattle.directory.proofs.DirectoryLaws.{reached-at}
 use Rattle.isolation.proofs.InPagesLaws.{word-in-pages, past-page-zero}
 use Rattle.isolation.proofs.NamedExactly.{named-in-pages}
-use Rattle.isolation.proofs.StreamSame.{placed-found, readable-placed}
+use Rattle.extent.proofs.ExtentLaws.{asked-at, readable-at}
 use Rattle.isolation.proofs.Stages.{Stage, stage}
 use Rattle.isolation.proofs.Isolation.{isolation}
 
@@ -31,8 +31,8 @@ pub alike : (f g : File) (len k : ℕ) (limit : Limit) → Agree (ListedBytes f 
 alike f g len k limit agree =
     let I = isolation f g len in
     record {
-      opening = I .opening (λ i l. agree i (ListedBytes.mapping (Listed.counting (ListedCount.opening l))));
-      stream-count = I .stream-count (λ i l. agree i (ListedBytes.mapping (Listed.counting l)));
+      opening = I .opening (λ i l. agree i (ListedBytes.mapping (ListedMap.counting (ListedCount.opening l))));
+      stream-count = I .stream-count (λ i l. agree i (ListedBytes.mapping (ListedMap.counting l)));
       map = λ offsets sizes. I .map k limit offsets sizes (λ i l. agree i (ListedBytes.mapping l));
       extract = λ out. I .extract k limit out agree;
       map-into = λ store. I .map-into k limit store (λ i l. agree i (ListedBytes.mapping l));
@@ -72,7 +72,7 @@ module _ (f : File) (len k i : ℕ) (zero : InPageZero f len i) where
   only-opening : Where f len i → ListedOpen f len i
   only-opening (Where.opening l) = l
   only-opening (Where.list {h} o x) =
-      absurd (located-not-zero o (past-page-zero (h .used) (h .pagesize) (location f) (locationPages h) (located-checked f len o) i x))
+      absurd (located-not-zero o (past-page-zero (h .used) (h .pagesize) (location f) (locationPages h) (is-located f len o .checked) i x))
   only-opening (Where.directory {h} d x) =
       let at = reached-at f len d in
       absurd (located-not-zero (at .located) (past-page-zero (h .used) (h .pagesize) (directoryPage f (h .pagesize)) (directoryPages h) (at .checked) i x))
@@ -80,8 +80,8 @@ module _ (f : File) (len k i : ℕ) (zero : InPageZero f len i) where
   in-page-zero : (limit : Limit) → ListedBytes f len k limit i → ListedOpen f len i
   in-page-zero limit (ListedBytes.mapping l) = only-opening (standing f len i (stage f len k i l))
   in-page-zero limit (ListedBytes.bytes {x} r n) =
-      let p = readable-placed f len k limit r in
-      let at = found-at f len k (placed-found f len k limit p) in
+      let p = readable-at f len k limit r .asked in
+      let at = found-at f len k (asked-at f len k limit p .found) in
       absurd (located-not-zero (reached-at f len (at .reached) .located)
       (past-page-zero (x .found .header .used) (x .found .header .pagesize) (ownPage f (x .found)) (ownPages (x .found)) (at .checked) i (named-in-pages f len k limit p i n)))
 
@@ -100,17 +100,17 @@ module _ (f : File) (len k : ℕ) {h : Header} (p : headed f len ≡ ok h) (i : 
   not-standing : OffTheLists f len h i → Where f len i → ⊥
   not-standing off (Where.opening l) = past-opening (off .past-entries) l
   not-standing off (Where.list o x) =
-      let same = located-header f len p o in off .no-list (rw same at o) (rw same at x)
+      let same = ok-is (sym (is-located f len o .headed) ∙ p) in off .no-list (rw same at o) (rw same at x)
   not-standing off (Where.directory d x) =
-      let same = located-header f len p (reached-at f len d .located) in off .no-directory (rw same at d) (rw same at x)
+      let same = ok-is (sym (is-located f len (reached-at f len d .located) .headed) ∙ p) in off .no-directory (rw same at d) (rw same at x)
 
-  off-the-lists : OffTheLists f len h i → Listed f len k i → ⊥
+  off-the-lists : OffTheLists f len h i → ListedMap f len k i → ⊥
   off-the-lists off l = not-standing off (standing f len i (stage f len k i l))
 
   elsewhere : (limit : Limit) → Elsewhere f len k h i → ListedBytes f len k limit i → ⊥
   elsewhere limit e (ListedBytes.mapping l) = off-the-lists (e .off-the-lists) l
   elsewhere limit e (ListedBytes.bytes r n) =
-      let q = readable-placed f len k limit r in e .no-own (placed-found f len k limit q) (named-in-pages f len k limit q i n)
+      let q = readable-at f len k limit r .asked in e .no-own (asked-at f len k limit q .found) (named-in-pages f len k limit q i n)
 
 -- ---- of the header's words, neither is read in opening
 pub no-free-map : (f : File) (len i : ℕ) → standsAt f 0 bigMagic ≡ true → 36 ≤ i → i < 40 → ListedOpen f len i → ⊥

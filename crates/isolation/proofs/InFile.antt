@@ -10,11 +10,12 @@ use Rattle.header.proofs.HeaderLaws.{headed-long}
 use Rattle.header.proofs.OpenLaws.{is-located}
 use Rattle.stream.specs.Stream.{ownPage}
 use Rattle.extent.specs.declared.limit.Limit.{Limit}
-use Rattle.container_statements.proofs.FileLaws.{lies-byte, lies-word}
-use Rattle.container_statements.proofs.Statements.{large, readable-at}
+use Rattle.paged.proofs.LiesLaws.{lies-byte, lies-word}
+use Rattle.extent.proofs.ExtentLaws.{readable-at}
+use Rattle.container_statements.proofs.Statements.{large}
 use Rattle.isolation.specs.Listed.{ListedOpen, ListedBytes}
 use Rattle.isolation.specs.InFile.{InFile}
-use Rattle.isolation.proofs.PassedLaws.{reached-at}
+use Rattle.directory.proofs.DirectoryLaws.{reached-at}
 use Rattle.isolation.proofs.NamedExactly.{stream-byte}
 use Rattle.isolation.proofs.Stages.{Stage, stage}
 
@@ -35,7 +36,7 @@ module _ (f : File) (len i : ℕ) where
   staged-in (Stage.word {w = j} {h} d l w) =
       let at = reached-at f len d in
       let least = at .size .least in
-      let in-file = lies-word len (h .pagesize) (directoryPage f (h .pagesize)) (h .directory) (omega arith) (at .directory) (at .size) j (omega arith) in
+      let in-file = lies-word len (h .pagesize) (directoryPage f (h .pagesize)) (h .directory) (omega arith) (at .held) (at .size) j (omega arith) in
       inl (omega (arith, w .1))
 
 pub in-file : (f : File) (len k : ℕ) (limit : Limit) → InFile f len k limit
@@ -45,6 +46,6 @@ in-file f len k limit = record { is = is }
     is i (ListedBytes.mapping l) = staged-in f len i (stage f len k i l)
     is i (ListedBytes.bytes {x} r n) =
         let read = readable-at f len k limit r in
-        let b = stream-byte f len k limit (read .placed) i n in
-        let lies = lies-byte len (x .found .header .pagesize) (ownPage f (x .found)) (x .size) (large f len k limit (read .placed)) (read .lies) (b .index) (b .below) in
+        let b = stream-byte f len k limit (read .asked) i n in
+        let lies = lies-byte len (x .found .header .pagesize) (ownPage f (x .found)) (x .length) (large f len k limit (read .asked)) (read .lies) (b .index) (b .below) in
         inl (omega (arith, b .at))

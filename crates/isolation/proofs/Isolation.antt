@@ -5,6 +5,7 @@ use mathlib.Core.List.{List, map}
 use Prim.Native.Nat.{ℕ, min}
 use lib.ListN.{length}
 use Rattle.outcome.specs.Store.{written}
+use Rattle.outcome.proofs.OutcomeLaws.{bind-same, written-same}
 use Rattle.parse_buffer.specs.Bytes.{File}
 use Rattle.header.specs.Header.{opening}
 use Rattle.header.specs.Promises.{Opening}
@@ -20,9 +21,9 @@ use Rattle.mapping.specs.declared.Mapping.{Mapping}
 use Rattle.msf.specs.declared.to_bytes.Extracted.{Extracted}
 use Rattle.slice_store.specs.Promises.{MapsInto}
 use Rattle.container_statements.proofs.Statements.{single-valued}
-use Rattle.isolation.specs.Listed.{ListedOpen, ListedCount, Listed, ListedBytes, Agree}
+use Rattle.isolation.specs.Listed.{ListedOpen, ListedCount, ListedMap, ListedBytes, Agree}
 use Rattle.isolation.specs.Isolation.{Isolation}
-use Rattle.isolation.proofs.Same.{bind-same, written-same, located-same, streamCount-same}
+use Rattle.isolation.proofs.Same.{located-same, streamCount-same}
 use Rattle.isolation.proofs.StreamSame.{mapping-same, mapped-slices, extraction-same, extracted-bytes}
 
 module _ (f g : File) (len : ℕ) where
@@ -36,7 +37,7 @@ module _ (f g : File) (len : ℕ) where
   counting-as : Agree (ListedCount f len) f g → (r : Counted) → Counting g len r → Counting f len r
   counting-as agree r p = record { answer = p .answer ∙ sym (streamCount-same f g len agree) }
 
-  module _ (k : ℕ) (limit : Limit) (agree : Agree (Listed f len k) f g) where
+  module _ (k : ℕ) (limit : Limit) (agree : Agree (ListedMap f len k) f g) where
     pub mapped-same : (room : ℕ) → mapped f (mapping f len k limit room) ≡ mapped g (mapping g len k limit room)
     unfolding mapped
     mapped-same room =

@@ -1,4 +1,3 @@
-pub mod PassedLaws
 pub mod Same
 pub mod InPagesLaws
 pub mod NamedExactly

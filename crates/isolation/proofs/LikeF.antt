@@ -26,7 +26,7 @@ use Rattle.isolation.specs.Listed.{entryPlace, wordPlace}
 use Rattle.isolation.specs.Tight.{changed}
 
 abbrev pub headerF : ℕ → Header
-headerF n = record { size = 256; used = 24; directory = n }
+headerF n = record { pagesize = 256; used = 24; directory = n }
 
 -- F, but for a directory of n bytes
 pub record Like (g : File) (n : ℕ) : Type 0 where
@@ -103,9 +103,9 @@ module _ {g : File} {n : ℕ} (like : Like g n) (small : n ≤ 36) where
     pub present : eqb (sizeAt g 256 k) absent ≡ false
     pub is : x ≡ record { header = headerF n; size = sizeAt g 256 k; first = firstOf g 256 3 k }
 
-  pub listed-is : (k : ℕ) {x : Found} → skippedTo g 6144 k ≡ ok x → Is k x
-  unfolding skippedTo stream.sized
-  listed-is k {x} e =
+  pub skipped-is : (k : ℕ) {x : Found} → skippedTo g 6144 k ≡ ok x → Is k x
+  unfolding skippedTo stream.present
+  skipped-is k {x} e =
       came-by _ _ e λ y s e₁.
       came _ _ e₁ λ _ _ e₂.
       came _ _ e₂ λ _ _ e₃.
@@ -114,7 +114,7 @@ module _ {g : File} {n : ℕ} (like : Like g n) (small : n ≤ 36) where
       came _ _ s₂ λ _ l s₃.
       came _ _ s₃ λ _ _ s₄.
       came _ _ s₄ λ _ a s₅.
-      let same = header-is (reached-at g 6144 d) in
+      let same = header-is (reached-at g 6144 d .located) in
       let below : k < directoryWord g (h .pagesize) 0 = ltb-true _ _ (passed _ _ l) in
       let present : eqb (sizeAt g (h .pagesize) k) absent ≡ false = not-true _ (passed _ _ a) in
       record {
@@ -129,14 +129,14 @@ module _ {g : File} {n : ℕ} (like : Like g n) (small : n ≤ 36) where
 
   pub is-0 : {x : Found} → skippedTo g 6144 0 ≡ ok x → x ≡ stream-in 300 4
   unfolding pagesBefore
-  is-0 e = rw (like .size-0) at (listed-is 0 e .is)
+  is-0 e = rw (like .size-0) at (skipped-is 0 e .is)
 
   pub is-2 : {x : Found} → skippedTo g 6144 2 ≡ ok x → x ≡ stream-in 600 6
   unfolding pagesBefore pagesOf need
-  is-2 e = simp (like .size-0, like .size-1, like .size-2) at (listed-is 2 e .is)
+  is-2 e = simp (like .size-0, like .size-1, like .size-2) at (skipped-is 2 e .is)
 
   pub not-1 : {x : Found} → skippedTo g 6144 1 ≡ ok x → ⊥
-  not-1 e = let p = rw (like .size-1) at (listed-is 1 e .present) in let z : _≡_ {A = ℕ} 0 1 = cc in omega arith
+  not-1 e = let p = rw (like .size-1) at (skipped-is 1 e .present) in let z : _≡_ {A = ℕ} 0 1 = cc in omega arith
 
   pub place-0 : (j : ℕ) → j < 300 → through 256 (ownPage g (stream-in 300 4)) j ≡ 5120 + j
   place-0 j l =

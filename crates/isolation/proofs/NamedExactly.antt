@@ -58,26 +58,26 @@ byte-of (s ∷ rest) i (Named.there n) =
 
 -- ---- a stream's slices
 module _ (f : File) (len k : ℕ) (limit : Limit) {x : Asked} (p : asked f len k limit ≡ ok x) where
-  pub is-named : (j : ℕ) → j < x .size → Named (slicesIn f x) (through (x .found .header .pagesize) (ownPage f (x .found)) j)
+  pub is-named : (j : ℕ) → j < x .length → Named (slicesIn f x) (through (x .found .header .pagesize) (ownPage f (x .found)) j)
   is-named j l =
       rw (← is-place f len k limit p j l) (named (slicesIn f x) j (rw (is-total f len k limit p) l))
 
   pub stream-byte : (i : ℕ) → Named (slicesIn f x) i → StreamByte f x i
   stream-byte i n =
       let b = byte-of (slicesIn f x) i n in
-      let l : b .index < x .size = rw (is-total f len k limit p) at (b .below) in
+      let l : b .index < x .length = rw (is-total f len k limit p) at (b .below) in
       record { index = b .index; below = l; at = sym (b .at) ∙ is-place f len k limit p (b .index) l }
 
   -- the pages that hold what is asked for are among the stream's own
-  pub few : need (x .found .header .pagesize) (x .size) ≤ ownPages (x .found)
+  pub few : need (x .found .header .pagesize) (x .length) ≤ ownPages (x .found)
   few =
-      need-least (x .found .header .pagesize) (x .size) (large f len k limit p) (ownPages (x .found)) (held f len k limit p)
+      need-least (x .found .header .pagesize) (x .length) (large f len k limit p) (ownPages (x .found)) (held f len k limit p)
 
   pub named-in-pages : (i : ℕ) → Named (slicesIn f x) i → InPages (x .found .header .pagesize) (ownPage f (x .found)) (ownPages (x .found)) i
   named-in-pages i n =
       let b = stream-byte i n in
       let pos = large f len k limit p in
-      let l = need-index (x .found .header .pagesize) (x .size) pos (b .index) (b .below) in
+      let l = need-index (x .found .header .pagesize) (x .length) pos (b .index) (b .below) in
       let m = few in
       rw (b .at) (byte-in-pages (x .found .header .pagesize) (ownPage f (x .found)) (ownPages (x .found)) pos (b .index) (omega arith))
 

@@ -26,22 +26,22 @@ use Rattle.extent.specs.declared.limit.Limit.{Limit}
 use Rattle.extent.specs.declared.limit.Limit.the-variants.{None, AtMost}
 use Rattle.extent.proofs.ExtentLaws.{length-most}
 use Rattle.container_statements.specs.FileF.{F}
-use Rattle.isolation.specs.Listed.{entryPlace, wordPlace, ListedOpen, ListedCount, Listed, ListedBytes}
+use Rattle.isolation.specs.Listed.{entryPlace, wordPlace, ListedOpen, ListedCount, ListedMap, ListedBytes}
 use Rattle.isolation.specs.Tight.{changed, Within, startF, streamZero, streamTwo, NotListed, NotTooMuch}
 use Rattle.isolation.proofs.NamedExactly.{stream-byte}
-use Rattle.isolation.proofs.StreamSame.{placed-found, placed-size, readable-placed}
+use Rattle.extent.proofs.ExtentLaws.{asked-at, readable-at}
 use Rattle.isolation.proofs.Corollaries.{first-256, no-free-map, no-reserved}
-use Rattle.isolation.proofs.LikeF.{Like, likeF, like-short, header-is, one-location, entry-at, word-at, listed-is, is-0, not-1, is-2, place-0, place-2, last-2}
+use Rattle.isolation.proofs.LikeF.{Like, likeF, like-short, header-is, one-location, entry-at, word-at, skipped-is, is-0, not-1, is-2, place-0, place-2, last-2}
 
--- ---- what a skippedTo byte is, where the directory has n bytes
-data Asked (g : File) (k i : ℕ) : Type 0 where
-  count : 1024 ≤ i → i < 1028 → Asked g k i
-  size : k < 3 → 1028 ≤ i → i < 1032 + 4 * k → Asked g k i
-  own : {x : Found} → skippedTo g 6144 k ≡ ok x → 1024 + 4 * x .first ≤ i → i < 1024 + 4 * (x .first + ownPages x) → Asked g k i
+-- ---- what a listed byte is, where the directory has n bytes
+data Read (g : File) (k i : ℕ) : Type 0 where
+  count : 1024 ≤ i → i < 1028 → Read g k i
+  size : k < 3 → 1028 ≤ i → i < 1032 + 4 * k → Read g k i
+  own : {x : Found} → skippedTo g 6144 k ≡ ok x → 1024 + 4 * x .first ≤ i → i < 1024 + 4 * (x .first + ownPages x) → Read g k i
 
 data Part (g : File) (n k : ℕ) (limit : Limit) (i : ℕ) : Type 0 where
   start : Within startF i → Part g n k limit i
-  word : i < 1024 + 4 * (n / 4) → Asked g k i → Part g n k limit i
+  word : i < 1024 + 4 * (n / 4) → Read g k i → Part g n k limit i
   byte : {j : ℕ} {x : Found} → skippedTo g 6144 k ≡ ok x → j < lengthOf limit (x .size) → i ≡ through (x .header .pagesize) (ownPage g x) j → Part g n k limit i
 
 module _ {g : File} {n : ℕ} (like : Like g n) (small : n ≤ 36) where
@@ -55,39 +55,39 @@ module _ {g : File} {n : ℕ} (like : Like g n) (small : n ≤ 36) where
 
   directory : {h : Header} → reached g 6144 ≡ ok h → Directory h
   directory d =
-      rw (header-is like small (reached-at g 6144 d)) record { held = refl; count = like .count; word = word-at like small }
+      rw (header-is like small (reached-at g 6144 d .located)) record { held = refl; count = like .count; word = word-at like small }
 
   part : (k : ℕ) (limit : Limit) (i : ℕ) → ListedBytes g 6144 k limit i → Part g n k limit i
-  part k limit i (ListedBytes.mapping (Listed.counting (ListedCount.opening (ListedOpen.start l)))) =
+  part k limit i (ListedBytes.mapping (ListedMap.counting (ListedCount.opening (ListedOpen.start l)))) =
       Part.start (inl (omega arith))
-  part k limit i (ListedBytes.mapping (Listed.counting (ListedCount.opening (ListedOpen.fields l m)))) =
+  part k limit i (ListedBytes.mapping (ListedMap.counting (ListedCount.opening (ListedOpen.fields l m)))) =
       Part.start (inr (inl (omega arith)))
-  part k limit i (ListedBytes.mapping (Listed.counting (ListedCount.opening (ListedOpen.small e _ _)))) =
+  part k limit i (ListedBytes.mapping (ListedMap.counting (ListedCount.opening (ListedOpen.small e _ _)))) =
       let big = like .big in absurd (let z : _≡_ {A = ℕ} 0 1 = cc in omega arith)
-  part k limit i (ListedBytes.mapping (Listed.counting (ListedCount.opening (ListedOpen.locations o l w)))) =
+  part k limit i (ListedBytes.mapping (ListedMap.counting (ListedCount.opening (ListedOpen.locations o l w)))) =
       let few = one-location like small in
       let m = rw (ok-is (sym o ∙ like .headed)) at l in
       Part.start (inr (inr (inl (omega (arith, w .0, w .1)))))
-  part k limit i (ListedBytes.mapping (Listed.counting (ListedCount.list {j} o _ l w))) =
+  part k limit i (ListedBytes.mapping (ListedMap.counting (ListedCount.list {j} o _ l w))) =
       let e = entry-of o j (omega arith) in
       Part.start (inr (inr (inr (inl (omega (arith, w .0, w .1))))))
-  part k limit i (ListedBytes.mapping (Listed.counting (ListedCount.count d t w))) =
+  part k limit i (ListedBytes.mapping (ListedMap.counting (ListedCount.count d t w))) =
       let r = directory d in
       let e = r .word 0 (omega (arith, leb-true)) in
-      Part.word (omega (arith, leb-true, w .1)) (Asked.count (omega (arith, w .0)) (omega (arith, w .1)))
-  part k limit i (ListedBytes.mapping (Listed.sizes {j} d l m t w)) =
+      Part.word (omega (arith, leb-true, w .1)) (Read.count (omega (arith, w .0)) (omega (arith, w .1)))
+  part k limit i (ListedBytes.mapping (ListedMap.sizes {j} d l m t w)) =
       let r = directory d in
       let e = r .word (1 + j) (omega (arith, leb-true)) in
-      Part.word (omega (arith, leb-true, w .1)) (Asked.size (omega arith) (omega (arith, w .0)) (omega (arith, w .1)))
-  part k limit i (ListedBytes.mapping (Listed.pages {j} {x} s l t w)) =
+      Part.word (omega (arith, leb-true, w .1)) (Read.size (omega arith) (omega (arith, w .0)) (omega (arith, w .1)))
+  part k limit i (ListedBytes.mapping (ListedMap.pages {j} {x} s l t w)) =
       let r = directory (skipped-at g 6144 k s .reached) in
       let e = r .word (x .first + j) (omega (arith, leb-true)) in
-      Part.word (omega (arith, leb-true, w .1)) (Asked.own s (omega (arith, w .0)) (omega (arith, w .1)))
+      Part.word (omega (arith, leb-true, w .1)) (Read.own s (omega (arith, w .0)) (omega (arith, w .1)))
   part k limit i (ListedBytes.bytes {x} r m) =
-      let p : asked g 6144 k limit ≡ ok x = search readable-placed in
+      let p : asked g 6144 k limit ≡ ok x = readable-at g 6144 k limit r .asked in
       let b = stream-byte g 6144 k limit p i m in
-      let size = placed-size g 6144 k limit p in
-      Part.byte {j = b .index} (found-at g 6144 k (placed-found g 6144 k limit p) .listed) (omega (arith, b .below)) (b .at)
+      let size = asked-at g 6144 k limit p .length in
+      Part.byte {j = b .index} (found-at g 6144 k (asked-at g 6144 k limit p .found) .skipped) (omega (arith, b .below)) (b .at)
 
 -- ---- stream by stream
 abbrev Parts : (k : ℕ) → Limit → List (ℕ × ℕ) → Type 0
@@ -97,9 +97,9 @@ Parts k limit ranges = (i : ℕ) → Part F 36 k limit i → Within startF i ⊎
 parts-0 : (limit : Limit) (n : ℕ) → lengthOf limit 300 ≤ n → Parts 0 limit (streamZero n)
 unfolding need
 parts-0 limit n f i (Part.start w) = inl w
-parts-0 limit n f i (Part.word _ (Asked.count a b)) = inr (inl (omega arith))
-parts-0 limit n f i (Part.word _ (Asked.size a b c)) = inr (inl (omega arith))
-parts-0 limit n f i (Part.word _ (Asked.own s a b)) =
+parts-0 limit n f i (Part.word _ (Read.count a b)) = inr (inl (omega arith))
+parts-0 limit n f i (Part.word _ (Read.size a b c)) = inr (inl (omega arith))
+parts-0 limit n f i (Part.word _ (Read.own s a b)) =
     let same = is-0 likeF (omega arith) s in
     let from = rw same at a in
     let to = rw same at b in
@@ -114,9 +114,9 @@ parts-0 limit n f i (Part.byte {j} s l e) =
 parts-2 : (limit : Limit) (n : ℕ) → lengthOf limit 600 ≤ n → Parts 2 limit (streamTwo n)
 unfolding need
 parts-2 limit n f i (Part.start w) = inl w
-parts-2 limit n f i (Part.word _ (Asked.count a b)) = inr (inl (omega arith))
-parts-2 limit n f i (Part.word _ (Asked.size a b c)) = inr (inl (omega arith))
-parts-2 limit n f i (Part.word _ (Asked.own s a b)) =
+parts-2 limit n f i (Part.word _ (Read.count a b)) = inr (inl (omega arith))
+parts-2 limit n f i (Part.word _ (Read.size a b c)) = inr (inl (omega arith))
+parts-2 limit n f i (Part.word _ (Read.own s a b)) =
     let same = is-2 likeF (omega arith) s in
     let from = rw same at a in
     let to = rw same at b in
@@ -133,17 +133,17 @@ parts-2 limit n f i (Part.byte {j} s l e) =
 
 parts-1 : (limit : Limit) → Parts 1 limit ((1024, 1036) ∷ [])
 parts-1 limit i (Part.start w) = inl w
-parts-1 limit i (Part.word _ (Asked.count a b)) = inr (inl (omega arith))
-parts-1 limit i (Part.word _ (Asked.size a b c)) = inr (inl (omega arith))
-parts-1 limit i (Part.word _ (Asked.own s a b)) = absurd (not-1 likeF (omega arith) s)
+parts-1 limit i (Part.word _ (Read.count a b)) = inr (inl (omega arith))
+parts-1 limit i (Part.word _ (Read.size a b c)) = inr (inl (omega arith))
+parts-1 limit i (Part.word _ (Read.own s a b)) = absurd (not-1 likeF (omega arith) s)
 parts-1 limit i (Part.byte s l e) = absurd (not-1 likeF (omega arith) s)
 
 parts-more : (k : ℕ) (limit : Limit) → 3 ≤ k → Parts k limit ((1024, 1028) ∷ [])
 parts-more k limit l i (Part.start w) = inl w
-parts-more k limit l i (Part.word _ (Asked.count a b)) = inr (inl (omega arith))
-parts-more k limit l i (Part.word _ (Asked.size a b c)) = absurd (omega arith)
-parts-more k limit l i (Part.word _ (Asked.own s a b)) = absurd (let x = listed-is likeF (omega arith) k s .below in omega arith)
-parts-more k limit l i (Part.byte s m e) = absurd (let x = listed-is likeF (omega arith) k s .below in omega arith)
+parts-more k limit l i (Part.word _ (Read.count a b)) = inr (inl (omega arith))
+parts-more k limit l i (Part.word _ (Read.size a b c)) = absurd (omega arith)
+parts-more k limit l i (Part.word _ (Read.own s a b)) = absurd (let x = skipped-is likeF (omega arith) k s .below in omega arith)
+parts-more k limit l i (Part.byte s m e) = absurd (let x = skipped-is likeF (omega arith) k s .below in omega arith)
 
 -- ---- beside the ranges
 -- whether a range has no byte from a up to b, and whether none has
@@ -186,7 +186,7 @@ past-four like small (suc (suc zero)) limit {j} s l =
     (λ (m : j < 512). rw (same, place-2 like small j m) (omega arith))
     (λ (m : 512 ≤ j). rw (same, last-2 like small j m (omega arith)) (omega arith))
     (below-or j 512)
-past-four like small (suc (suc (suc k))) limit s l = absurd (let below = listed-is like small (suc (suc (suc k))) s .below in omega arith)
+past-four like small (suc (suc (suc k))) limit s l = absurd (let below = skipped-is like small (suc (suc (suc k))) s .below in omega arith)
 
 not-held : (n k i : ℕ) → n ≤ 36 → 1024 + 4 * (n / 4) ≤ i → i < 1280 → NotListed (changed F 44 n) k i
 unfolding apart clear

@@ -11,7 +11,7 @@ use native.Mathlib.Omega.{arith}
 use borrow.Author.Tests.{leb-true, le-leb}
 use Rattle.outcome.specs.Outcome.{Outcome, ok, refused, _>>=_, _>>_, require}
 use Rattle.outcome.specs.Store.{written}
-use Rattle.outcome.proofs.OutcomeLaws.{below-or, passed}
+use Rattle.outcome.proofs.OutcomeLaws.{below-or, passed, bind-same, then-same}
 use Rattle.outcome.proofs.EachLaws.{each-same}
 use Rattle.parse_buffer.specs.Bytes.{File}
 use Rattle.parse_buffer.proofs.WordLaws.{word-same}
@@ -26,24 +26,9 @@ use Rattle.header.proofs.BlockLaws.{stands-same}
 use Rattle.header.proofs.OpenLaws.{is-located}
 use Rattle.directory.specs.Directory.{holds, reached, streamCount}
 use Rattle.isolation.specs.Listed.{InWord, wordPlace, listLies, ListedOpen, ListedCount, Agree}
-use Rattle.isolation.proofs.PassedLaws.{reached-at}
+use Rattle.directory.proofs.DirectoryLaws.{reached-at}
 
 -- ---- what holds of any stage
-pub bind-same : {E A B : Type 0} {x y : Outcome E A} {k l : A → Outcome E B} → x ≡ y → ((a : A) → x ≡ ok a → k a ≡ l a) → x >>= k ≡ y >>= l
-unfolding _>>=_
-bind-same {x = ok a} {k} {l} e h = h a refl ∙ ap (λ z. z >>= l) e
-bind-same {x = refused why} {k} {l} e h = ap (λ z. z >>= l) e
-
-pub then-same : {E A B : Type 0} {x y : Outcome E A} {n m : Outcome E B} → x ≡ y → ((a : A) → x ≡ ok a → n ≡ m) → x >> n ≡ y >> m
-unfolding _>>_
-then-same {x = ok a} {m} e h = h a refl ∙ ap (λ z. z >> m) e
-then-same {x = refused why} {m} e h = ap (λ z. z >> m) e
-
-pub written-same : {E A B : Type 0} {x y : Outcome E A} (s t : A → List B) (store : List B) → x ≡ y → ((a : A) → x ≡ ok a → s a ≡ t a) → written x s store ≡ written y t store
-unfolding written
-written-same {x = ok a} s t store e h = rw (h a refl) (ap (λ z. written z t store) e)
-written-same {x = refused why} s t store e h = ap (λ z. written z t store) e
-
 pub check-same : (used : ℕ) {p q : ℕ → ℕ} (n : ℕ) → ((j : ℕ) → j < n → p j ≡ q j) → checkPages used p n ≡ checkPages used q n
 check-same used n h = each-same n (λ j l. rw (h j l)) (λ j l. rw (h j l))
 

@@ -8,7 +8,7 @@ use native.Mathlib.Omega.{arith}
 use borrow.Author.Tests.{leb-true}
 use Rattle.outcome.specs.Outcome.{Outcome, ok, refused, _>>=_}
 use Rattle.outcome.specs.Refusal as paper
-use Rattle.outcome.proofs.OutcomeLaws.{ok-is}
+use Rattle.outcome.proofs.OutcomeLaws.{ok-is, ok-refused}
 use Rattle.parse_buffer.specs.Bytes.{File}
 use Rattle.header.specs.Header.{headerBlock, directoryPages, headed, located, words}
 use Rattle.header.specs.declared.Header.{Header}
@@ -16,10 +16,10 @@ use Rattle.directory.specs.Directory.{reached}
 use Rattle.stream.proofs.FindLaws.{skipped-at, found-at}
 use Rattle.extent.specs.Extent.{Asked, readable}
 use Rattle.extent.specs.declared.limit.Limit.{Limit}
-use Rattle.isolation.specs.Listed.{InWord, entryPlace, wordPlace, listLies, ListedOpen, ListedCount, Listed, ListedBytes}
+use Rattle.isolation.specs.Listed.{InWord, entryPlace, wordPlace, listLies, ListedOpen, ListedCount, ListedMap, ListedBytes}
 use Rattle.isolation.specs.Stages.{OnList, Stages}
-use Rattle.isolation.proofs.PassedLaws.{reached-at}
-use Rattle.isolation.proofs.StreamSame.{placed-found, readable-placed}
+use Rattle.directory.proofs.DirectoryLaws.{reached-at}
+use Rattle.extent.proofs.ExtentLaws.{asked-at, readable-at}
 
 -- ---- opening
 in-block : (f : File) (len i : ℕ) → ListedOpen f len i → i < headerBlock
@@ -34,18 +34,18 @@ pub data Stage (f : File) (len i : ℕ) : Type 0 where
   entry : {j : ℕ} {h : Header} → located f len ≡ ok h → listLies f len h ≡ ok tt → j < directoryPages h → InWord (entryPlace f h j) i → Stage f len i
   word : {w : ℕ} {h : Header} → reached f len ≡ ok h → w < words h → InWord (wordPlace f h w) i → Stage f len i
 
-pub stage : (f : File) (len k i : ℕ) → Listed f len k i → Stage f len i
-stage f len k i (Listed.counting (ListedCount.opening l)) = Stage.opening l
-stage f len k i (Listed.counting (ListedCount.list {j} {h} o inside l w)) =
+pub stage : (f : File) (len k i : ℕ) → ListedMap f len k i → Stage f len i
+stage f len k i (ListedMap.counting (ListedCount.opening l)) = Stage.opening l
+stage f len k i (ListedMap.counting (ListedCount.list {j} {h} o inside l w)) =
     Stage.entry {j = j} {h = h} (cc) inside (omega arith) w
-stage f len k i (Listed.counting (ListedCount.count d t w)) = Stage.word {w = 0} d (omega (arith, leb-true)) w
-stage f len k i (Listed.sizes {j} d _ _ t w) = Stage.word {w = 1 + j} d (omega (arith, leb-true)) w
-stage f len k i (Listed.pages {j} {x} s l t w) =
+stage f len k i (ListedMap.counting (ListedCount.count d t w)) = Stage.word {w = 0} d (omega (arith, leb-true)) w
+stage f len k i (ListedMap.sizes {j} d _ _ t w) = Stage.word {w = 1 + j} d (omega (arith, leb-true)) w
+stage f len k i (ListedMap.pages {j} {x} s l t w) =
     Stage.word {w = x .first + j} (skipped-at f len k s .reached) (omega (arith, leb-true)) w
 
 -- ---- where a stage refuses
 clash : {A : Type 0} {o : Outcome paper.Refusal A} {a : A} {why : paper.Refusal} → o ≡ ok a → o ≡ refused why → ⊥
-clash p q = let z : _≡_ {A = ℕ} 0 1 = cc in omega arith
+clash p q = ok-refused (sym p ∙ q)
 
 module _ (f : File) (len i : ℕ) where
   no-entries : {why : paper.Refusal} → headed f len ≡ refused why → ListedOpen f len i → i < 48
@@ -78,9 +78,9 @@ module _ (f : File) (len i : ℕ) where
 -- ---- extraction: a stream that is read was found in a directory that was reached
 module _ (f : File) (len k : ℕ) (limit : Limit) (i : ℕ) where
   pub read-reached : {x : Asked} → readable f len k limit ≡ ok x → reached f len ≡ ok (x .found .header)
-  read-reached r = found-at f len k (placed-found f len k limit (readable-placed f len k limit r)) .reached
+  read-reached r = found-at f len k (asked-at f len k limit (readable-at f len k limit r .asked) .found) .reached
 
-  bytes-refused : {why : paper.Refusal} → readable f len k limit ≡ refused why → ListedBytes f len k limit i → Listed f len k i
+  bytes-refused : {why : paper.Refusal} → readable f len k limit ≡ refused why → ListedBytes f len k limit i → ListedMap f len k i
   bytes-refused e (ListedBytes.mapping l) = l
   bytes-refused e (ListedBytes.bytes r n) = absurd (clash r e)
 

@@ -5,7 +5,7 @@ use native.Mathlib.Omega.{arith}
 use native.Mathlib.Nat.{le-refl}
 use borrow.Author.Tests.{leb-true, ltb-true, le-leb}
 use Rattle.outcome.specs.Outcome.{ok}
-use Rattle.outcome.proofs.OutcomeLaws.{passed, came, came-by, ok-is}
+use Rattle.outcome.proofs.OutcomeLaws.{passed, came, came-by, ok-is, bind-same, then-same}
 use Rattle.parse_buffer.specs.Bytes.{File}
 use Rattle.paged.specs.Pages.{through, directoryWord}
 use Rattle.paged.proofs.SizeLaws.{need-index}
@@ -20,11 +20,13 @@ use Rattle.slices.specs.Slices.{continues, slicesOf}
 use Rattle.extent.specs.Extent.{lengthOf, Asked, asked, readable}
 use Rattle.mapping.specs.Mapping.{slicesIn, mapping}
 use Rattle.msf.specs.Extraction.{bytesThrough, bytesIn, extraction}
+use Rattle.extent.proofs.ExtentLaws.{asked-at, readable-at}
+use Rattle.mapping.proofs.MappingLaws.{mapping-at}
 use Rattle.extent.specs.declared.limit.Limit.{Limit}
-use Rattle.container_statements.proofs.Statements.{mapping-placed, large, readable-at}
-use Rattle.isolation.specs.Listed.{ListedCount, Listed, ListedBytes, Agree}
+use Rattle.container_statements.proofs.Statements.{large}
+use Rattle.isolation.specs.Listed.{ListedCount, ListedMap, ListedBytes, Agree}
 use Rattle.isolation.proofs.NamedExactly.{is-named, few}
-use Rattle.isolation.proofs.Same.{bind-same, then-same, check-same, lies-same, reached-same, held-same, count-same}
+use Rattle.isolation.proofs.Same.{check-same, lies-same, reached-same, held-same, count-same}
 
 -- ---- the slices of equal pages
 continues-same : {p q : ℕ → ℕ} (n : ℕ) → ((j : ℕ) → j < suc n → p j ≡ q j) → continues p n ≡ continues q n
@@ -36,30 +38,15 @@ unfolding slicesOf
 slices-same size zero h = refl
 slices-same size (suc n) h = rw (slices-same size n (λ j l. h j (omega arith)), continues-same n h, h n (omega arith))
 
--- ---- what a stage that passed says of the one before it
-module _ (f : File) (len k : ℕ) (limit : Limit) {x : Asked} where
-  pub placed-found : asked f len k limit ≡ ok x → found f len k ≡ ok (x .found)
-  unfolding asked
-  placed-found p =
-      came-by _ _ p λ y e e₁.
-      e ∙ ap (λ (z : Asked). ok (z .found)) (ok-is e₁)
-
-  pub placed-size : asked f len k limit ≡ ok x → x .size ≡ lengthOf limit (x .found .size)
-  unfolding asked
-  placed-size p = came-by _ _ p λ y _ e₁. rw (← ok-is e₁) refl
-
-  pub readable-placed : readable f len k limit ≡ ok x → asked f len k limit ≡ ok x
-  readable-placed e = readable-at f len k limit e .placed
-
 -- ---- mapping
-module _ (f g : File) (len k : ℕ) (agree : Agree (Listed f len k) f g) where
+module _ (f g : File) (len k : ℕ) (agree : Agree (ListedMap f len k) f g) where
   counts : Agree (ListedCount f len) f g
-  counts i l = agree i (Listed.counting l)
+  counts i l = agree i (ListedMap.counting l)
 
   module _ {h : Header} (d : reached f len ≡ ok h) (l : k < directoryWord f (h .pagesize) 0) (t : 2 + k ≤ words h) where
     size-same : (j : ℕ) → j ≤ k → sizeAt f (h .pagesize) j ≡ sizeAt g (h .pagesize) j
     size-same j m =
-        held-same f g len counts d (1 + j) (omega arith) (λ i w. agree i (Listed.sizes {j = j} d (omega arith) (omega arith) (omega (arith, le-leb)) w))
+        held-same f g len counts d (1 + j) (omega arith) (λ i w. agree i (ListedMap.sizes {j = j} d (omega arith) (omega arith) (omega (arith, le-leb)) w))
 
     before-same : (j : ℕ) → j ≤ k → pagesBefore f (h .pagesize) j ≡ pagesBefore g (h .pagesize) j
     unfolding pagesBefore
@@ -96,7 +83,7 @@ module _ (f g : File) (len k : ℕ) (agree : Agree (Listed f len k) f g) where
     own-same : (j : ℕ) → j < ownPages x → x .first + j < words (x .header) → ownPage f x j ≡ ownPage g x j
     own-same j l t =
         held-same f g len counts (skipped-at f len k s .reached) (x .first + j) t
-        (λ i w. agree i (Listed.pages {j = j} s (omega arith) (omega (arith, le-leb)) w))
+        (λ i w. agree i (ListedMap.pages {j = j} s (omega arith) (omega (arith, le-leb)) w))
 
   found-same : found f len k ≡ found g len k
   unfolding found
@@ -105,26 +92,26 @@ module _ (f g : File) (len k : ℕ) (agree : Agree (Listed f len k) f g) where
       then-same (check-same _ _ (λ j l. own-same s j (omega arith) (omega arith))) λ _ _.
       refl
 
-  pub placed-same : (limit : Limit) → asked f len k limit ≡ asked g len k limit
+  pub asked-same : (limit : Limit) → asked f len k limit ≡ asked g len k limit
   unfolding asked
-  placed-same limit = rw found-same
+  asked-same limit = rw found-same
 
   module _ (limit : Limit) {x : Asked} (p : asked f len k limit ≡ ok x) where
     pub page-same : (j : ℕ) → j < ownPages (x .found) → ownPage f (x .found) j ≡ ownPage g (x .found) j
     page-same j l =
-        let at = found-at f len k (placed-found f len k limit p) in
+        let at = found-at f len k (asked-at f len k limit p .found) in
         let inside = at .inside in
-        own-same (at .listed) j l (omega arith)
+        own-same (at .skipped) j l (omega arith)
 
     pub slicesIn-same : slicesIn f x ≡ slicesIn g x
     slicesIn-same = rw (slices-same (x .found .header .pagesize) (ownPages (x .found)) page-same)
 
   pub mapping-same : (limit : Limit) (room : ℕ) → mapping f len k limit room ≡ mapping g len k limit room
   unfolding mapping
-  mapping-same limit room = bind-same (placed-same limit) λ x p. rw (slicesIn-same limit p)
+  mapping-same limit room = bind-same (asked-same limit) λ x p. rw (slicesIn-same limit p)
 
   pub mapped-slices : (limit : Limit) (room : ℕ) {x : Asked} → mapping f len k limit room ≡ ok x → slicesIn f x ≡ slicesIn g x
-  mapped-slices limit room m = slicesIn-same limit (mapping-placed f len k limit room m)
+  mapped-slices limit room m = slicesIn-same limit (mapping-at f len k limit room m .asked)
 
 -- ---- extraction
 through-same : (f g : File) (p : ℕ) (a b : ℕ → ℕ) (n : ℕ) → ((i : ℕ) → i < n → f (through p a i) ≡ g (through p b i)) → bytesThrough f p a n ≡ bytesThrough g p b n
@@ -133,22 +120,22 @@ through-same f g p a b zero h = refl
 through-same f g p a b (suc n) h = rw (through-same f g p a b n (λ i l. h i (omega arith)), h n (omega arith))
 
 module _ (f g : File) (len k : ℕ) (limit : Limit) (agree : Agree (ListedBytes f len k limit) f g) where
-  maps : Agree (Listed f len k) f g
+  maps : Agree (ListedMap f len k) f g
   maps i l = agree i (ListedBytes.mapping l)
 
   pub readable-same : readable f len k limit ≡ readable g len k limit
   unfolding readable
   readable-same =
-      bind-same (placed-same f g len k maps limit) λ x p.
+      bind-same (asked-same f g len k maps limit) λ x p.
       then-same (lies-same _ _ _ _ (λ j l. let m = few f len k limit p in page-same f g len k maps limit p j (omega arith))) λ _ _.
       refl
 
   pub bytesIn-same : {x : Asked} → readable f len k limit ≡ ok x → bytesIn f x ≡ bytesIn g x
   bytesIn-same {x} r =
-      let p = readable-placed f len k limit r in
-      through-same f g (x .found .header .pagesize) (ownPage f (x .found)) (ownPage g (x .found)) (x .size) (λ i l.
+      let p = readable-at f len k limit r .asked in
+      through-same f g (x .found .header .pagesize) (ownPage f (x .found)) (ownPage g (x .found)) (x .length) (λ i l.
       let m = few f len k limit p in
-      let n = need-index (x .found .header .pagesize) (x .size) (large f len k limit p) i l in
+      let n = need-index (x .found .header .pagesize) (x .length) (large f len k limit p) i l in
       rw (← page-same f g len k maps limit p (i / x .found .header .pagesize) (omega arith))
       (agree _ (ListedBytes.bytes {x = x} (cc) (is-named f len k limit p i l))))
 

@@ -9,8 +9,7 @@ use Rattle.paged.specs.Pages.{location, directoryPage, directoryWord}
 use Rattle.paged.specs.Checks.{pageFits}
 use Rattle.header.specs.Header.{standsAt, sized, headed, located, opening}
 use Rattle.directory.specs.Directory.{reached, streamCount}
-use Rattle.stream.specs.Stream as stream
-use Rattle.stream.specs.Stream.{pagesOf, pagesBefore, skippedTo, found}
+use Rattle.stream.specs.Stream.{pagesOf, pagesBefore, present, skippedTo, found}
 use Rattle.slices.specs.Slices.{lengthen, slicesOf, cut}
 use Rattle.extent.specs.Extent.{asked, readable}
 use Rattle.mapping.specs.Mapping.{mapping}
@@ -20,7 +19,7 @@ use Rattle.container_statements.specs.Cases.{mappingOf}
 use Rattle.isolation.specs.Tight.{Tight, firstByte}
 
 pub tight : Tight
-unfolding mappingOf firstByte F fileF _>>=_ _>>_ require each word sizeFits need location directoryPage directoryWord pageFits standsAt sized headed located opening reached streamCount pagesOf pagesBefore stream.sized skippedTo found lengthen slicesOf cut asked mapping bytesThrough readable extraction Count.ones Count.onesIn
+unfolding mappingOf firstByte F fileF _>>=_ _>>_ require each word sizeFits need location directoryPage directoryWord pageFits standsAt sized headed located opening reached streamCount pagesOf pagesBefore present skippedTo found lengthen slicesOf cut asked mapping bytesThrough readable extraction Count.ones Count.onesIn
 tight =
     record {
       start = (refl, refl);

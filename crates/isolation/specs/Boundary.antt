@@ -5,7 +5,7 @@ use Prim.Native.Nat.{ℕ}
 use Rattle.parse_buffer.specs.Bytes.{File}
 use Rattle.extent.specs.declared.limit.Limit.{Limit}
 use Rattle.trovespan.specs.Promises.{Opens, Counts, Maps, Extracts}
-use Rattle.isolation.specs.Listed.{ListedOpen, ListedCount, Listed, ListedBytes, Agree}
+use Rattle.isolation.specs.Listed.{ListedOpen, ListedCount, ListedMap, ListedBytes, Agree}
 use Rattle.isolation.specs.Isolation.{Equal}
 
 -- each promise, of one tuple of all that the function gives
@@ -24,7 +24,7 @@ extracts f len k limit out r = Extracts f len k limit out (r .0) (r .1) (r .2)
 pub record Boundary (f g : File) (len : ℕ) : Type 0 where
   pub opening : Agree (ListedOpen f len) f g → Equal (opens f len) (opens g len)
   pub stream-count : Agree (ListedCount f len) f g → Equal (counts f len) (counts g len)
-  pub map : (k : ℕ) (limit : Limit) (offsets sizes : List ℕ) → Agree (Listed f len k) f g →
+  pub map : (k : ℕ) (limit : Limit) (offsets sizes : List ℕ) → Agree (ListedMap f len k) f g →
       Equal (maps f len k limit offsets sizes) (maps g len k limit offsets sizes)
   pub extract : (k : ℕ) (limit : Limit) (out : List ℕ) → Agree (ListedBytes f len k limit) f g →
       Equal (extracts f len k limit out) (extracts g len k limit out)

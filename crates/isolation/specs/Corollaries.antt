@@ -17,7 +17,7 @@ use Rattle.slices.specs.declared.SourceSlice.{SourceSlice}
 use Rattle.msf.specs.Promises.{Maps, Extracts}
 use Rattle.extent.specs.declared.limit.Limit.{Limit}
 use Rattle.slice_store.specs.Promises.{MapsInto}
-use Rattle.isolation.specs.Listed.{ListedOpen, Listed, ListedBytes}
+use Rattle.isolation.specs.Listed.{ListedOpen, ListedMap, ListedBytes}
 use Rattle.isolation.specs.NamedExactly.{InPages}
 use Rattle.isolation.specs.Isolation.{Equal, Equal₂, Equal₃}
 
@@ -51,7 +51,7 @@ pub record Corollaries (f g : File) (len k : ℕ) (limit : Limit) : Type 0 where
   pub unlisted : (at : ℕ) → (ListedBytes f len k limit at → ⊥) → DifferOnlyAt (λ i. i ≡ at) f g → Alike f g len k limit
   -- where the page size passes: a byte that is off the lists is not listed for mapping k, whatever k is. (Page 0 is no
   -- page of a list, so nothing is asked of its bytes past the location entriesInBlock)
-  pub off-the-lists : {h : Header} → headed f len ≡ ok h → (i : ℕ) → OffTheLists f len h i → Listed f len k i → ⊥
+  pub off-the-lists : {h : Header} → headed f len ≡ ok h → (i : ℕ) → OffTheLists f len h i → ListedMap f len k i → ⊥
   -- one that is not in k's own pages either is not listed for k at all; so changing any such bytes, those of another
   -- stream's pages among them, changes nothing for k
   pub elsewhere : {h : Header} → headed f len ≡ ok h → (i : ℕ) → Elsewhere f len k h i → ListedBytes f len k limit i → ⊥

@@ -62,18 +62,18 @@ pub data ListedCount (f : File) (len : ℕ) : ℕ → Type 0 where
       InWord (wordPlace f h 0) i → ListedCount f len i
 
 -- mapping stream k
-pub data Listed (f : File) (len k : ℕ) : ℕ → Type 0 where
-  counting : {i : ℕ} → ListedCount f len i → Listed f len k i
+pub data ListedMap (f : File) (len k : ℕ) : ℕ → Type 0 where
+  counting : {i : ℕ} → ListedCount f len i → ListedMap f len k i
   -- sizes 0 to k (as many as it holds; only the count if k is not below it)
   sizes : {i j : ℕ} {h : Header} → reached f len ≡ ok h → k < directoryWord f (h .pagesize) 0 → j ≤ k →
-      holds h (2 + j) ≡ true → InWord (wordPlace f h (1 + j)) i → Listed f len k i
+      holds h (2 + j) ≡ true → InWord (wordPlace f h (1 + j)) i → ListedMap f len k i
   -- and k's own page entriesInBlock as many as it holds
   pages : {i j : ℕ} {x : Found} → skippedTo f len k ≡ ok x → j < ownPages x →
-      holds (x .header) (x .first + j + 1) ≡ true → InWord (wordPlace f (x .header) (x .first + j)) i → Listed f len k i
+      holds (x .header) (x .first + j + 1) ≡ true → InWord (wordPlace f (x .header) (x .first + j)) i → ListedMap f len k i
 
 -- extracting it
 pub data ListedBytes (f : File) (len k : ℕ) (limit : Limit) : ℕ → Type 0 where
-  mapping : {i : ℕ} → Listed f len k i → ListedBytes f len k limit i
+  mapping : {i : ℕ} → ListedMap f len k i → ListedBytes f len k limit i
   -- file bytes named by the cut slices, if all lie in the file
   bytes : {i : ℕ} {x : Asked} → readable f len k limit ≡ ok x → Named (slicesIn f x) i → ListedBytes f len k limit i
 

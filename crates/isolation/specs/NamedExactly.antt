@@ -15,7 +15,7 @@ use Rattle.isolation.specs.Listed.{Named}
 -- i is the place of a byte of the stream that is before the cut
 pub record StreamByte (f : File) (x : Asked) (i : ℕ) : Type 0 where
   pub index : ℕ
-  pub below : index < x .size
+  pub below : index < x .length
   pub at : i ≡ through (x .found .header .pagesize) (ownPage f (x .found)) index
 
 -- i is a byte of one of the first n of these pages, which have p bytes each

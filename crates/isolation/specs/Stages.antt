@@ -12,7 +12,7 @@ use Rattle.header.specs.declared.Header.{Header}
 use Rattle.directory.specs.Directory.{reached}
 use Rattle.extent.specs.Extent.{readable}
 use Rattle.extent.specs.declared.limit.Limit.{Limit}
-use Rattle.isolation.specs.Listed.{InWord, entryPlace, listLies, ListedOpen, Listed, ListedBytes}
+use Rattle.isolation.specs.Listed.{InWord, entryPlace, listLies, ListedOpen, ListedMap, ListedBytes}
 
 -- i is a byte of the location list
 pub record OnList (f : File) (len i : ℕ) : Type 0 where
@@ -37,4 +37,4 @@ pub record Stages (f : File) (len k : ℕ) (limit : Limit) (i : ℕ) : Type 0 wh
       ListedBytes f len k limit i → ListedOpen f len i ⊎ OnList f len i
   -- the mapping is refused, or the bytes that are asked for are not all in the file
   pub bytes-refused : {why : paper.Refusal} → readable f len k limit ≡ refused why →
-      ListedBytes f len k limit i → Listed f len k i
+      ListedBytes f len k limit i → ListedMap f len k i

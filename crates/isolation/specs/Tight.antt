@@ -39,7 +39,7 @@ firstByte f = do
 
 -- what opening F answers, and mapping its stream 2
 abbrev openedF : Outcome paper.Refusal Container
-openedF = ok (record { size = 256; used = 24 })
+openedF = ok (record { pagesize = 256; used = 24 })
 
 abbrev twoF : Outcome paper.Refusal Answer
 twoF = ok (record { slices = at 2560 512 ∷ at 1280 88 ∷ []; size = 600 })

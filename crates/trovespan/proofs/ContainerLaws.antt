@@ -15,11 +15,12 @@ use Rattle.directory.specs.Promises.{countedIn, Counting}
 use Rattle.directory.specs.declared.Counted.{Counted}
 use Rattle.directory.specs.declared.Counted.the-variants as counted
 use Rattle.msf.specs.Promises as msf
-use Rattle.msf.specs.Promises.{mappedIn, extractedIn}
-use Rattle.msf.specs.declared.limit.Limit.{Limit}
-use Rattle.msf.specs.declared.to_slices.Mapped.{Mapped}
-use Rattle.msf.specs.declared.to_slices.Mapping.{Mapping}
-use Rattle.msf.specs.declared.to_slices.Mapping.the-variants as mapping
+use Rattle.mapping.specs.Mapping.{mappedIn}
+use Rattle.msf.specs.Promises.{extractedIn}
+use Rattle.extent.specs.declared.limit.Limit.{Limit}
+use Rattle.mapping.specs.declared.Mapped.{Mapped}
+use Rattle.mapping.specs.declared.Mapping.{Mapping}
+use Rattle.mapping.specs.declared.Mapping.the-variants as mapping
 use Rattle.msf.specs.declared.to_bytes.Extracted.{Extracted}
 use Rattle.msf.specs.declared.to_bytes.Extracted.the-variants as extracted
 use Rattle.trovespan.specs.Crossing.{told}
@@ -27,7 +28,7 @@ use Rattle.trovespan.specs.Promises.{Opens, Counts, Maps, Extracts}
 
 -- ---- `trovespan_open`
 module _ {f : File} {len : ℕ} {r : Opened} (p : Opening f len r) where
-  pub opens-container : {c : Container} → r ≡ opened.Container c → Opens f len 0 (c .size) (c .used)
+  pub opens-container : {c : Container} → r ≡ opened.Container c → Opens f len 0 (c .pagesize) (c .used)
   unfolding told openedIn
   opens-container {c} e =
       let k : _ ≡ ok c = sym (p .answer) ∙ ap openedIn e in

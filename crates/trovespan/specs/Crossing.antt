@@ -7,8 +7,8 @@ use lib.IntN.{ℤ, pos}
 use Rattle.outcome.specs.Outcome.{Outcome, ok, refused}
 use Rattle.outcome.specs.Refusal as paper
 use Rattle.annotations.specs.Step.{Stepped, annotation, end}
-use Rattle.msf.specs.declared.limit.Limit.{Limit}
-use Rattle.msf.specs.declared.limit.Limit.the-variants.{None, AtMost}
+use Rattle.extent.specs.declared.limit.Limit.{Limit}
+use Rattle.extent.specs.declared.limit.Limit.the-variants.{None, AtMost}
 
 -- what crosses of an answer: one thing of a value, another of a refusal
 unfoldable pub told : {E A B : Type 0} → (A → B) → (E → B) → Outcome E A → B

@@ -8,14 +8,15 @@ use Rattle.outcome.specs.Outcome.{Outcome, raise}
 use Rattle.outcome.specs.Refusal as paper
 use Rattle.outcome.specs.Store.{written}
 use Rattle.parse_buffer.specs.Bytes.{File}
-use Rattle.header.specs.Promises.{opening}
+use Rattle.header.specs.Header.{opening}
 use Rattle.header.specs.declared.Container.{Container}
 use Rattle.directory.specs.Directory.{streamCount}
 use Rattle.slices.specs.declared.SourceSlice.{SourceSlice}
-use Rattle.msf.specs.Msf.{Placed, slicesIn, bytesIn, mapping, extraction}
-use Rattle.msf.specs.Promises.{mapped, lengthIn}
-use Rattle.msf.specs.declared.limit.Limit.{Limit}
-use Rattle.msf.specs.declared.to_slices.Mapped.{Mapped}
+use Rattle.extent.specs.Extent.{Asked}
+use Rattle.mapping.specs.Mapping.{slicesIn, mapping, mapped}
+use Rattle.msf.specs.Extraction.{bytesIn, extraction, lengthIn}
+use Rattle.extent.specs.declared.limit.Limit.{Limit}
+use Rattle.mapping.specs.declared.Mapped.{Mapped}
 use Rattle.numbers.specs.Refusal.{Stop}
 use Rattle.numbers.specs.Number.{numberAt}
 use Rattle.annotations.specs.Step.{Stepped, stepAt}
@@ -25,14 +26,14 @@ use Rattle.trovespan.specs.Crossing.{told, Tells, opcodeOf, firstOf, sec
 
 -- ---- the container. Where a refusal has nothing to say, the number is 0
 pub record Opens (f : File) (len r value used : ℕ) : Type 0 where
-  pub answer : Tells (opening f len) (λ (c : Container). c .size) r value
+  pub answer : Tells (opening f len) (λ (c : Container). c .pagesize) r value
   pub used-told : used ≡ told (λ (c : Container). c .used) (λ _. 0) (opening f len)
 
 pub record Counts (f : File) (len r value : ℕ) : Type 0 where
   pub answer : Tells (streamCount f len) (λ n. n) r value
 
 -- (o is what mapping answers)
-pub record MapsOf (f : File) (o : Outcome paper.Refusal Placed) (offsets sizes : List ℕ)
+pub record MapsOf (f : File) (o : Outcome paper.Refusal Asked) (offsets sizes : List ℕ)
     (r value total : ℕ) (offsets′ sizes′ : List ℕ) : Type 0 where
   pub answer : Tells (mapped f o) (λ (m : Mapped). m .slices) r value
   pub length-told : total ≡ told (λ (m : Mapped). m .length) (λ _. 0) (mapped f o)

@@ -10,7 +10,7 @@ use Rattle.numbers.specs.Refusal as annotations
 use Rattle.numbers.specs.declared.refusal.Refusal as why-annotations
 use Rattle.annotations.specs.Annotation.{tripleIn}
 use Rattle.annotations.specs.declared.annotation.BinaryAnnotation.{BinaryAnnotation}
-use Rattle.msf.specs.declared.limit.Limit.{Limit}
+use Rattle.extent.specs.declared.limit.Limit.{Limit}
 use Rattle.trovespan.specs.Promises.{Opens, Counts, Maps, Extracts, Numbers, Steps, Decodes}
 
 -- no other numbers, and no other stores, satisfy a promise. (All that a function gives is one tuple.)

@@ -38,7 +38,7 @@ pub extern "C" fn trovespan_open(file: &[u8], value: &mut u64, used: &mut u64) -
 {
     match msf::open(file) {
         Opened::Container(c) => {
-            *value = c.size as u64;
+            *value = c.pagesize as u64;
             *used = c.used as u64;
             ACCEPTED
         }
