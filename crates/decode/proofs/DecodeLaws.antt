@@ -15,6 +15,7 @@ use mir.Val.{toZ, ofZ}
 use Rattle.outcome.specs.Outcome.{Outcome, ok, refused, _>>=_, _>>_, require, raise}
 use Rattle.outcome.specs.Store.{written}
 use Rattle.numbers.specs.Refusal.{Stop, stopIn}
+use Rattle.store.proofs.SetsLaws.{sets-append}
 use Rattle.annotations.specs.Annotation.{tripleIn}
 use Rattle.annotations.specs.Step.{PlacedTriple, annotation, end, stepAt}
 use Rattle.decode.specs.Decode.{Run, rest, decodeAll, entriesEach, tripleEntries, entries, decodedEntries, counted, decoding}
@@ -93,13 +94,6 @@ module _ {s : List ℕ} {at n : ℕ} {x : Step} (c : Counted-so-far s at n) (p :
   count-refused e = record { answer = rw (c .last, rest-refused s at (stopped p e)) }
 
 pub ruleset count-cases = (step-less, count-none, count-more, count-end, count-refused)
-
--- one run after another is one run
-sets-append : {A : Type 0} (xs ys l : List A) (i : ℕ) → sets (sets l i xs) (i + length xs) ys ≡ sets l i (xs ++ ys)
-sets-append [] ys l i = let e : i + 0 ≡ i = omega arith in rw e
-sets-append (x ∷ xs) ys l i =
-    let e : i + suc (length xs) ≡ suc i + length xs = omega arith in
-    rw e (sets-append xs ys _ (suc i))
 
 -- ---- writing: i entries are written, and writing the rest gives what is wanted
 pub record Written-so-far (s : List ℕ) (st₀ st : List ℤ) (at i : ℕ) : Type 0 where

@@ -40,7 +40,9 @@ pub(crate) fn open(d: Digest, asked: bool, file: &[u8]) -> Digest {
         return d;
     }
     match msf::open(file) {
-        Opened::Container(c) => d.plain(OPENED).plain(c.size as u64).plain(c.used as u64),
+        Opened::Container(c) => d.plain(OPENED)
+            .plain(c.pagesize as u64)
+            .plain(c.used as u64),
         Opened::Refused(why) => refused(d, OPEN_REFUSED, why),
     }
 }

@@ -58,10 +58,10 @@ use Rattle.slices.proofs.SourceSlice as T
 use Rattle.slices.proofs.SourceSlice.Laws as T′
 use Rattle.extent.specs.declared.limit.Limit.{Limit}
 use Rattle.mapping.specs.declared.Mapping.{Mapping}
-use Rattle.msf.proofs.limit.Limit as L
-use Rattle.msf.proofs.limit.Limit.Laws as L′
-use Rattle.msf.proofs.to_slices.Mapping as E
-use Rattle.msf.proofs.to_slices.Mapping.Laws as E′
+use Rattle.extent.proofs.limit.Limit as L
+use Rattle.extent.proofs.limit.Limit.Laws as L′
+use Rattle.mapping.proofs.Mapping as E
+use Rattle.mapping.proofs.Mapping.Laws as E′
 use Rattle.slice_store.specs.Promises.{MapsInto}
 use Rattle.slice_store.proofs.map_into as map-into
 use Rattle.slice_store.proofs.map_into.Symbol as map-into-def
