@@ -20,6 +20,9 @@ use Rattle.paged.specs.PageSize.{need}
 use Rattle.paged.specs.Pages.{through}
 use Rattle.paged.specs.Checks.{liesInFile}
 use Rattle.paged.proofs.SizeLaws.{need-covers, need-least, word-in-page}
+use Rattle.header.specs.Inner.{headedIn}
+use Rattle.stream.specs.Inner.{soughtIn}
+use Rattle.extent.specs.Inner.{measuredIn}
 use Rattle.header.specs.Promises.{openedIn}
 use Rattle.header.specs.Header.{opening}
 use Rattle.directory.specs.Directory.{streamCount}
@@ -38,11 +41,21 @@ use Rattle.msf.proofs.CopyLaws.{through-length, through-at}
 use Rattle.store.proofs.SetsLaws.{sets-first, sets-beyond}
 use Rattle.extent.proofs.ExtentLaws.{length-most, Asked-at, asked-at, readable-at}
 use Rattle.mapping.proofs.MappingLaws.{mapping-at}
+use Rattle.extent.specs.declared.Extent.{Extent}
+use Rattle.mapping.specs.declared.Mapping.{Mapping}
+use Rattle.mapping.specs.declared.Plan.{Plan}
 use Rattle.extent.specs.declared.limit.Limit.{Limit}
 use Rattle.msf.specs.declared.to_bytes.Extracted.{Extracted}
 use Rattle.container_statements.specs.Statements.{SingleValued, Extracted-from, TheByte, TheSlices, Pages-needed, Entries-of, Own}
 use Rattle.paged.proofs.LiesLaws.{lies-byte}
 use Rattle.container_statements.proofs.Told.{told}
+
+same-plan : (a b : Plan) → a .answer ≡ b .answer → a .extent ≡ b .extent → a ≡ b
+same-plan a b e g =
+    ap (λ (x : Mapping). planOf x (a .extent)) e ∙ ap (λ (x : Extent). planOf (b .answer) x) g
+  where
+    planOf : Mapping → Extent → Plan
+    planOf answer extent = record { answer = answer; extent = extent }
 
 pub single-valued : SingleValued
 single-valued =
@@ -57,6 +70,14 @@ single-valued =
           only₂ extractedIn (told .extracted) _ _ a b x y (p .answer, p .after) (q .answer, q .after);
       map-into = λ f len k limit s a b x y p q.
           only₂ mappedIn (told .mapped) _ _ a b x y (p .answer, p .after) (q .answer, q .after);
+      parse = λ f len a b p q. only headedIn (told .headed) _ a b (p .answer) (q .answer);
+      locate = λ f len a b p q. only headedIn (told .headed) _ a b (p .answer) (q .answer);
+      reach = λ f len a b p q. only headedIn (told .headed) _ a b (p .answer) (q .answer);
+      find = λ f len k a b p q. only soughtIn (told .sought) _ a b (p .answer) (q .answer);
+      measure = λ f len k limit a b p q. only measuredIn (told .measured) _ a b (p .answer) (q .answer);
+      readable = λ f len k limit a b p q. only measuredIn (told .measured) _ a b (p .answer) (q .answer);
+      judge = λ f len k limit room a b p q.
+          same-plan a b (only mappedIn (told .mapped) _ (a .answer) (b .answer) (p .answer) (q .answer)) (p .extent ∙ sym (q .extent));
     }
 
 -- ---- what is asked for is held by the pages of the stream

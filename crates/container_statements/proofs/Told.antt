@@ -12,12 +12,26 @@ use Rattle.parse_buffer.specs.declared.Parsed.the-variants as parsed
 use Rattle.paged.specs.Refusal.{refusalIn}
 use Rattle.paged.specs.declared.refusal.Refusal.{Refusal}
 use Rattle.paged.specs.declared.refusal.Refusal.the-variants.{UnrecognizedFileFormat, UnimplementedFeature, InvalidPageSize, PageReferenceOutOfRange, StreamNotFound, FileEnds, ShortData, NoRoom}
+use Rattle.paged.specs.Checks.{checkedIn}
+use Rattle.paged.specs.declared.pages.Checked.{Checked}
+use Rattle.paged.specs.declared.pages.Checked.the-variants as checked
+use Rattle.header.specs.Inner.{headedIn}
+use Rattle.header.specs.declared.Headed.{Headed}
+use Rattle.header.specs.declared.Headed.the-variants as headed
 use Rattle.header.specs.Promises.{openedIn}
 use Rattle.header.specs.declared.Opened.{Opened}
 use Rattle.header.specs.declared.Opened.the-variants as opened
 use Rattle.directory.specs.Promises.{countedIn}
 use Rattle.directory.specs.declared.Counted.{Counted}
 use Rattle.directory.specs.declared.Counted.the-variants as counted
+use Rattle.stream.specs.Inner.{presenceIn, soughtIn}
+use Rattle.stream.specs.declared.Presence.{Presence}
+use Rattle.stream.specs.declared.Presence.the-variants as presence
+use Rattle.stream.specs.declared.Sought.{Sought}
+use Rattle.stream.specs.declared.Sought.the-variants as sought
+use Rattle.extent.specs.Inner.{measuredIn}
+use Rattle.extent.specs.declared.Measured.{Measured}
+use Rattle.extent.specs.declared.Measured.the-variants as measured
 use Rattle.mapping.specs.Mapping.{mappedIn}
 use Rattle.msf.specs.Promises.{extractedIn}
 use Rattle.mapping.specs.declared.Mapping.{Mapping}
@@ -83,6 +97,34 @@ unfolding extractedIn
 extracted-is (extracted.Length n) = refl
 extracted-is (extracted.Refused why) = rw (refusal-is why)
 
+checked-back : Outcome paper.Refusal (Unit {0}) → Checked
+checked-back o = back (λ _. checked.Fine) checked.Refused o
+
+checked-is : (r : Checked) → checked-back (checkedIn r) ≡ r
+unfolding checkedIn checked-back
+checked-is checked.Fine = refl
+checked-is (checked.Refused why) = rw (refusal-is why)
+
+headed-is : (r : Headed) → back headed.Container headed.Refused (headedIn r) ≡ r
+unfolding headedIn
+headed-is (headed.Container h) = refl
+headed-is (headed.Refused why) = rw (refusal-is why)
+
+presence-is : (r : Presence) → back presence.Present presence.Refused (presenceIn r) ≡ r
+unfolding presenceIn
+presence-is (presence.Present x) = refl
+presence-is (presence.Refused why) = rw (refusal-is why)
+
+sought-is : (r : Sought) → back sought.Found sought.Refused (soughtIn r) ≡ r
+unfolding soughtIn
+sought-is (sought.Found x) = refl
+sought-is (sought.Refused why) = rw (refusal-is why)
+
+measured-is : (r : Measured) → back measured.Extent measured.Refused (measuredIn r) ≡ r
+unfolding measuredIn
+measured-is (measured.Extent x) = refl
+measured-is (measured.Refused why) = rw (refusal-is why)
+
 pub told : Told
 told =
     record {
@@ -92,4 +134,9 @@ told =
       counted = read-back countedIn (back counted.Streams counted.Refused) counted-is;
       mapped = read-back mappedIn (back mapping.Mapped mapping.Refused) mapped-is;
       extracted = read-back extractedIn (back extracted.Length extracted.Refused) extracted-is;
+      checked = read-back checkedIn checked-back checked-is;
+      headed = read-back headedIn (back headed.Container headed.Refused) headed-is;
+      presence = read-back presenceIn (back presence.Present presence.Refused) presence-is;
+      sought = read-back soughtIn (back sought.Found sought.Refused) sought-is;
+      measured = read-back measuredIn (back measured.Extent measured.Refused) measured-is;
     }

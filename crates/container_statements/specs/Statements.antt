@@ -11,8 +11,15 @@ use Rattle.parse_buffer.specs.Parse.{parsedIn, Parsing, InPlace, Taking}
 use Rattle.paged.specs.Refusal.{refusalIn}
 use Rattle.paged.specs.PageSize.{PageSize, need}
 use Rattle.paged.specs.Pages.{directoryWord}
+use Rattle.paged.specs.Checks.{checkedIn}
+use Rattle.header.specs.Inner as header
+use Rattle.header.specs.Inner.{headedIn, Locating}
 use Rattle.header.specs.Promises.{openedIn, Opening}
+use Rattle.directory.specs.Inner.{Reaching}
 use Rattle.directory.specs.Promises.{countedIn, Counting}
+use Rattle.stream.specs.Inner.{presenceIn, soughtIn, Finding}
+use Rattle.extent.specs.Inner.{measuredIn, Measuring, Reading}
+use Rattle.mapping.specs.Inner.{Plans}
 use Rattle.stream.specs.Stream.{absent, sizeAt, pagesOf, firstOf, ownPage, ownPages, found}
 use Rattle.stream.specs.declared.Found.{Found}
 use Rattle.slices.specs.Slices.{Full, total, placeOf}
@@ -26,7 +33,7 @@ use Rattle.mapping.specs.declared.Mapping.{Mapping}
 use Rattle.msf.specs.declared.to_bytes.Extracted.{Extracted}
 use Rattle.slice_store.specs.Promises.{MapsInto}
 
--- what an answer says on paper tells it from every other answer
+-- what an answer says on paper tells it from every other answer: those of the operations, and of the stages
 pub record Told : Type 0 where
   pub refusal : Injective refusalIn
   pub parsed : Injective parsedIn
@@ -34,6 +41,11 @@ pub record Told : Type 0 where
   pub counted : Injective countedIn
   pub mapped : Injective mappedIn
   pub extracted : Injective extractedIn
+  pub checked : Injective checkedIn
+  pub headed : Injective headedIn
+  pub presence : Injective presenceIn
+  pub sought : Injective soughtIn
+  pub measured : Injective measuredIn
 
 -- no second answer, and no other store, satisfies a promise
 pub record SingleValued : Type 0 where
@@ -48,6 +60,14 @@ pub record SingleValued : Type 0 where
   pub extract : (f : File) (len k : ℕ) (limit : Limit) (out : List ℕ) → Only₂ (Extracts f len k limit out)
   pub map-into : (f : File) (len k : ℕ) (limit : Limit) (store : List SourceSlice) →
       Only₂ (MapsInto f len k limit store)
+  -- the stages
+  pub parse : (f : File) (len : ℕ) → Only (header.Parsing f len)
+  pub locate : (f : File) (len : ℕ) → Only (Locating f len)
+  pub reach : (f : File) (len : ℕ) → Only (Reaching f len)
+  pub find : (f : File) (len k : ℕ) → Only (Finding f len k)
+  pub measure : (f : File) (len k : ℕ) (limit : Limit) → Only (Measuring f len k limit)
+  pub readable : (f : File) (len k : ℕ) (limit : Limit) → Only (Reading f len k limit)
+  pub judge : (f : File) (len k : ℕ) (limit : Limit) (room : ℕ) → Only (Plans f len k limit room)
 
 -- where byte i of a stream stands in the file: page (i / P) * P + i mod P, where `page` is the stream's own entries in
 -- the directory

@@ -1,6 +1,6 @@
 // Step 8: how many bytes of a stream are asked for, and the pages that hold them.
 //
-// limit.rt: the limit. This file: `measure` finds a stream and applies the limit; `readable` also checks that these bytes
+// limit.rt: the limit. This file: `measure` finds a stream and applies the limit; `readable` also checks that the bytes
 // lie in the file.
 mod limit;
 
@@ -20,7 +20,7 @@ ghost use Rattle.parse_buffer.specs.Bytes.{byteAt};
 ghost use Rattle.extent.specs.Extent.{askedOf, extentOf};
 ghost use Rattle.extent.specs.Inner.{whyMeasured, Extends, Held, Measuring, Reading};
 
-// The first `bytes` bytes of a stream. Its page numbers stand in the directory from word `first` on, and these bytes take
+// The first `bytes` bytes of a stream. Its page numbers are in the directory, from word `first` on, and the bytes take
 // `pages` of them.
 pub struct Extent {
     pub pagesize: usize,

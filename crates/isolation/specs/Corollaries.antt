@@ -34,12 +34,13 @@ pub record Alike (f g : File) (len k : ℕ) (limit : Limit) : Type 0 where
 abbrev pub DifferOnlyAt : (ℕ → Type 0) → File → File → Type 0
 DifferOnlyAt Place f g = (i : ℕ) → (Place i → ⊥) → f i ≡ g i
 
--- byte i is past the location entriesInBlock, and in no page of the location list or of the directory. The pages of a stage
+-- byte i is past the location entries, and in no page of the location list or of the directory. The pages of a stage
 -- count only if it is reached
 pub record OffTheLists (f : File) (len : ℕ) (h : Header) (i : ℕ) : Type 0 where
   pub past-entries : firstEntry + 4 * min (locationPages h) entriesInBlock ≤ i
   pub no-list : located f len ≡ ok h → InPages (h .pagesize) (location f) (locationPages h) i → ⊥
-  pub no-directory : reached f len ≡ ok h → InPages (h .pagesize) (directoryPage f (h .pagesize)) (directoryPages h) i → ⊥
+  pub no-directory : reached f len ≡ ok h →
+      InPages (h .pagesize) (directoryPage f (h .pagesize)) (directoryPages h) i → ⊥
 
 -- and in no page of stream k
 pub record Elsewhere (f : File) (len k : ℕ) (h : Header) (i : ℕ) : Type 0 where

@@ -67,9 +67,10 @@ pub data ListedMap (f : File) (len k : ℕ) : ℕ → Type 0 where
   -- sizes 0 to k (as many as it holds; only the count if k is not below it)
   sizes : {i j : ℕ} {h : Header} → reached f len ≡ ok h → k < directoryWord f (h .pagesize) 0 → j ≤ k →
       holds h (2 + j) ≡ true → InWord (wordPlace f h (1 + j)) i → ListedMap f len k i
-  -- and k's own page entriesInBlock as many as it holds
+  -- and k's own page entries as many as it holds
   pages : {i j : ℕ} {x : Found} → skippedTo f len k ≡ ok x → j < ownPages x →
-      holds (x .header) (x .first + j + 1) ≡ true → InWord (wordPlace f (x .header) (x .first + j)) i → ListedMap f len k i
+      holds (x .header) (x .first + j + 1) ≡ true → InWord (wordPlace f (x .header) (x .first + j)) i →
+      ListedMap f len k i
 
 -- extracting it
 pub data ListedBytes (f : File) (len k : ℕ) (limit : Limit) : ℕ → Type 0 where

@@ -5,10 +5,11 @@ use Prim.Native.Nat.{ℕ, _+_, _-_, _*_, _≤_, _<_}
 use lib.ListN.{length, take, getD}
 use Rattle.outcome.specs.Outcome.{ok, refused}
 use Rattle.outcome.specs.Refusal as paper
-use Rattle.outcome.specs.Only.{Only₂, Injective}
+use Rattle.outcome.specs.Only.{Only, Only₂, Injective}
 use Rattle.parse_buffer.specs.Bytes.{File}
 use Rattle.listing_text.specs.Text.{decimal, refusalText}
 use Rattle.listing_whole.specs.Whole.{listable, listRefusalIn}
+use Rattle.listing_whole.specs.Inner.{judgedIn, Judges}
 use Rattle.listing_line.specs.Line.{lineAt}
 use Rattle.listing.specs.Listing.{linesFrom, listing, lineOf}
 use Rattle.listing.specs.Promises.{listedIn, Lists, Refuses}
@@ -22,11 +23,14 @@ use Rattle.listing.specs.declared.Listed.the-variants as listed
 pub record Told : Type 0 where
   pub refusal : Injective listRefusalIn
   pub listed : Injective listedIn
+  pub judged : Injective judgedIn
 
 -- no second answer, and no other buffer, satisfies a promise
 pub record SingleValued : Type 0 where
   pub list : (f : File) (len : ℕ) (place : Place) (out : List ℕ) → Only₂ (Lists f len place out)
   pub list-refusal : (why : paper.Refusal) (out : List ℕ) → Only₂ (Refuses why out)
+  -- the stage that judges a file
+  pub judge : (f : File) (len : ℕ) → Only (Judges f len)
 
 -- a number in decimal: what its digits say, each is a digit, and none is 0 in front of another
 unfoldable pub valueFrom : ℕ → List ℕ → ℕ

@@ -1,5 +1,5 @@
-// Judging a mapping: its answer, and the pages whose slices are to be written. Judging goes by value, so that any kind of
-// store can be lent above (`msf::map`, `slice_store::map_into`).
+// Judging a mapping: its answer, and the pages whose slices are to be written. No store is lent here, so both forms of
+// the operation use it (`msf::map`, `slice_store::map_into`).
 use extent::Extent;
 use extent::Limit;
 use extent::Measured;

@@ -1,4 +1,4 @@
-// Mapping a stream to slices of the file, into two lent stores. Two passes: `judge` counts, then the slices are written.
+// Mapping a stream to slices of the file, into two lent stores: `judge` counts the slices, then they are written.
 use extent::Limit;
 use mapping::Mapping;
 use mapping::judge;

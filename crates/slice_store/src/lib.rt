@@ -1,8 +1,8 @@
 // The slice store: a stream mapped into a lent run of slice records, as the Rust's `PageList` hands out
 // (`src/msf/page_list.rs`, `src/source.rs`), where `msf::map` takes two number stores.
 //
-// All that is decided is decided by value: `begin` judges, and `step` says which entry a page more changes, and to what.
-// `map_into` alone touches the store.
+// Every decision is made by value: `begin` judges, and `step` says which entry the next page changes, and to what. Only
+// `map_into` touches the store.
 use extent::Extent;
 use extent::Limit;
 use mapping::Mapping;

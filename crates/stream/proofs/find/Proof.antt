@@ -1,4 +1,4 @@
--- One law of `FindLaws` for each way out; the rest of the step is `find_after`'s.
+-- `size_of` and the test on all sizes are what `find_after` requires, and it does the rest of the step.
 -- Assumes nothing.
 use borrow.Author.Needs.{needs}
 use Rattle.stream.proofs.FindLaws.{find-cases, find-size, skipped}

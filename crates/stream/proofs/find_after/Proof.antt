@@ -1,4 +1,5 @@
--- One law of `FindLaws` for each way out. The first entry stands in the directory, so what is left does not wrap.
+-- The entries that the directory holds are checked before 7 is given, as `found` says. The first entry stands in the
+-- directory, so what is left does not wrap.
 -- Assumes that the stream is present, that the directory holds all sizes, and the count of pages before.
 use borrow.Author.Needs.{needs}
 use Rattle.stream.proofs.FindLaws.{after-cases, after-size, entries-fit}
