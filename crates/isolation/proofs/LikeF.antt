@@ -1,4 +1,4 @@
--- Where what is skippedTo stands, in file F and in F with a shorter directory: by F's words, computed once, and by what a stage
+-- Where what is listed stands, in file F and in F with a shorter directory: by F's words, computed once, and by what a stage
 -- that passed says of the header and the stream.
 use mathlib.Core.Path.{_≡_, refl, sym, _∙_, ap}
 use mathlib.Core.Bool.{true, false}

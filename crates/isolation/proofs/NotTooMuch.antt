@@ -1,4 +1,4 @@
--- On file F: a skippedTo byte is one of the header's, the location list's, of a word that is asked for in the directory, or of
+-- On file F: a listed byte is one of the header's, the location list's, of a word that is asked for in the directory, or of
 -- the stream; that gives the ranges of each stream, and what lies beside them.
 use mathlib.Core.Path.{_≡_, refl, sym, _∙_}
 use mathlib.Core.Bool.{Bool, true, false, cond}

@@ -51,7 +51,7 @@ pub record Corollaries (f g : File) (len k : ℕ) (limit : Limit) : Type 0 where
   -- changing any byte that is not listed for k changes nothing for k
   pub unlisted : (at : ℕ) → (ListedBytes f len k limit at → ⊥) → DifferOnlyAt (λ i. i ≡ at) f g → Alike f g len k limit
   -- where the page size passes: a byte that is off the lists is not listed for mapping k, whatever k is. (Page 0 is no
-  -- page of a list, so nothing is asked of its bytes past the location entriesInBlock)
+  -- page of a list, so nothing is asked of its bytes past the location entries)
   pub off-the-lists : {h : Header} → headed f len ≡ ok h → (i : ℕ) → OffTheLists f len h i → ListedMap f len k i → ⊥
   -- one that is not in k's own pages either is not listed for k at all; so changing any such bytes, those of another
   -- stream's pages among them, changes nothing for k

@@ -47,7 +47,7 @@ pub data ListedOpen (f : File) (len : ℕ) : ℕ → Type 0 where
   fields : {i : ℕ} → 40 ≤ i → i < 48 → ListedOpen f len i
   -- and 36 to 39 too where bytes 0 to 31 are not the big magic
   small : {i : ℕ} → standsAt f 0 bigMagic ≡ false → 36 ≤ i → i < 40 → ListedOpen f len i
-  -- the location entriesInBlock in the header block, if the page size passes
+  -- the location entries in the header block, if the page size passes
   locations : {i j : ℕ} {h : Header} → headed f len ≡ ok h → j < min (locationPages h) entriesInBlock →
       InWord (firstEntry + 4 * j) i → ListedOpen f len i
 

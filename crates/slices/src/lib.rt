@@ -1,8 +1,8 @@
 // From a stream's pages to slices: the Rust's `PageList` (`src/msf/page_list.rs`), with no list kept. The pages are
 // walked one at a time, each with as many of its bytes as the length still wants: `push` and `truncate` in one step.
 //
-// The walk is done twice: `count_slices` counts for the room, `write_slices` writes two lent stores. Callers with a store
-// of another kind use `begin` and `extend`.
+// The walk is done twice: `count_slices` counts for the room, `write_slices` writes two lent stores. A caller with
+// another kind of store uses `begin` and `extend`.
 use extent::Extent;
 use paged::PageNumber;
 use paged::Pages;
