@@ -10,7 +10,7 @@ use lib.Dec.{leb, ltb}
 use lib.ListN.{length, getD}
 use lib.IntN.{pos, negℤ}
 use Rattle.outcome.specs.Outcome.{Outcome, ok, refused, _>>=_, _>>_, require, raise}
-use Rattle.outcome.proofs.OutcomeLaws.{by-test}
+use Rattle.outcome.proofs.OutcomeLaws.{by-test, ok-refused}
 use Rattle.outcome.proofs.OnlyLaws.{only, only₂}
 use Rattle.numbers.specs.Refusal.{Stop, stop}
 use Rattle.numbers.specs.Number.{numberAt}
@@ -90,8 +90,8 @@ module _ (s : List ℕ) (at : ℕ) where
   read-exactly : (n : Number) → at + form b1 ≤ length s → b1 < 0xe0 → Exactly s at (ok n)
   read-exactly n h k =
       record {
-        short = (λ e. absurd (let z : _≡_ {A = ℕ} 0 1 = cc in omega arith), λ l. absurd (omega arith));
-        invalid = (λ e. absurd (let z : _≡_ {A = ℕ} 0 1 = cc in omega arith), λ l. absurd (omega arith));
+        short = (λ e. absurd (ok-refused e), λ l. absurd (omega arith));
+        invalid = (λ e. absurd (ok-refused e), λ l. absurd (omega arith));
         read = (λ _. (h, k), λ _. (n, refl));
       }
 
@@ -100,7 +100,7 @@ module _ (s : List ℕ) (at : ℕ) where
       record {
         short = (λ _. h, λ _. refl);
         invalid = (λ e. absurd (omega (arith, other e)), λ l. absurd (omega (arith, form-four b1 (omega arith))));
-        read = (λ e. absurd (let f = e .1 in let z : _≡_ {A = ℕ} 0 1 = cc in omega arith), λ l. absurd (omega arith));
+        read = (λ e. absurd (ok-refused (sym (e .1))), λ l. absurd (omega arith));
       }
 
   invalid-exactly : at + 4 ≤ length s → 0xe0 ≤ b1 → Exactly s at (refused (stop InvalidCompressedAnnotation (at + 4)))
@@ -108,7 +108,7 @@ module _ (s : List ℕ) (at : ℕ) where
       record {
         short = (λ e. absurd (omega (arith, other e)), λ l. absurd (omega (arith, form-four b1 (omega arith))));
         invalid = (λ _. (h, k), λ _. refl);
-        read = (λ e. absurd (let f = e .1 in let z : _≡_ {A = ℕ} 0 1 = cc in omega arith), λ l. absurd (omega arith));
+        read = (λ e. absurd (ok-refused (sym (e .1))), λ l. absurd (omega arith));
       }
 
   exactly : Exactly s at (numberAt s at)
@@ -176,7 +176,7 @@ agreement =
 decodes : (last : Outcome Stop ℕ) (m room n : ℕ) → ((raise withPlace (last >> ok m) >>= λ k. require (leb (entriesEach * k) room) (noRoom (entriesEach * k)) >> ok k) ≡ ok n) ↔ ((n ≡ m) × ((place : ℕ) × (last ≡ ok place)) × (entriesEach * n ≤ room))
 unfolding raise require _>>=_ _>>_
 decodes (refused why) m room n =
-    (λ e. absurd (let z : _≡_ {A = ℕ} 0 1 = cc in omega arith), λ t. absurd (let f = t .1 .1 in let z : _≡_ {A = ℕ} 0 1 = cc in omega arith))
+    (λ e. absurd (ok-refused (sym e)), λ t. absurd (ok-refused (sym (t .1 .1))))
 decodes (ok place) m room n = go (leb (entriesEach * m) room) refl
   where
     go : (b : Bool) → leb (entriesEach * m) room ≡ b → ((require b (noRoom (entriesEach * m)) >> ok m) ≡ ok n) ↔ ((n ≡ m) × ((p : ℕ) × (_≡_ {A = Outcome Stop ℕ} (ok place) (ok p))) × (entriesEach * n ≤ room))
@@ -185,7 +185,7 @@ decodes (ok place) m room n = go (leb (entriesEach * m) room) refl
         (λ e. let f : n ≡ m = cc in (f, (place, refl), omega arith), λ t. rw (t .0))
     go false h =
         let over = leb-false (entriesEach * m) room h in
-        (λ e. absurd (let z : _≡_ {A = ℕ} 0 1 = cc in omega arith), λ t. absurd (omega (arith, t .0, t .2)))
+        (λ e. absurd (ok-refused (sym e)), λ t. absurd (omega (arith, t .0, t .2)))
 
 pub decode-exactly : DecodeExactly
 unfolding decoding

@@ -9,7 +9,7 @@ use lib.Seq.{sets}
 use Rattle.outcome.specs.Outcome.{Outcome, ok, refused, _>>=_}
 use Rattle.outcome.specs.Refusal as paper
 use Rattle.outcome.specs.Store.{written}
-use Rattle.outcome.proofs.OutcomeLaws.{came, came-by, ok-is, passed}
+use Rattle.outcome.proofs.OutcomeLaws.{came, came-by, ok-is, passed, ok-refused}
 use Rattle.outcome.proofs.OnlyLaws.{only}
 use Rattle.parse_buffer.specs.Bytes.{File}
 use Rattle.slices.specs.declared.SourceSlice.{SourceSlice}
@@ -34,7 +34,7 @@ record Mapping-at (f : File) (len k : ℕ) (limit : Limit) (room : ℕ) (m : Map
 accepted : (f : File) (o : Outcome paper.Refusal Asked) {m : Mapped} → mapped f o ≡ ok m → (x : Asked) × ((o ≡ ok x) × (m .slices ≡ length (slicesIn f x)))
 unfolding mapped _>>=_
 accepted f (ok x) e = (x, (refl, ap (λ (m : Mapped). m .slices) (sym (ok-is e))))
-accepted f (refused why) e = absurd (let z : _≡_ {A = ℕ} 0 1 = cc in omega arith)
+accepted f (refused why) e = absurd (ok-refused (sym e))
 
 mapping-fits : (f : File) (len k : ℕ) (limit : Limit) (room : ℕ) {x : Asked} → mapping f len k limit room ≡ ok x → length (slicesIn f x) ≤ room
 unfolding mapping

@@ -7,9 +7,9 @@ use lib.ListN.{length, replicate}
 use Rattle.parse_buffer.specs.Bytes.{File, byteAt, bytesOf}
 use Rattle.header.specs.Header.{bigMagic}
 
-abbrev words : List ℕ → List ℕ
-words [] = []
-words (n ∷ ns) = bytesOf n ++ words ns
+abbrev asBytes : List ℕ → List ℕ
+asBytes [] = []
+asBytes (n ∷ ns) = bytesOf n ++ asBytes ns
 
 -- what a page holds, filled up to 256 bytes with 0, and pages of 0
 abbrev page : List ℕ → List ℕ
@@ -20,10 +20,10 @@ empty n = replicate (256 * n) 0
 
 unfoldable pub fileF : List ℕ
 fileF =
-    page (bigMagic ++ words (256 ∷ 1 ∷ 24 ∷ 36 ∷ 0 ∷ 3 ∷ []))
+    page (bigMagic ++ asBytes (256 ∷ 1 ∷ 24 ∷ 36 ∷ 0 ∷ 3 ∷ []))
     ++ empty 2
-    ++ page (words (4 ∷ []))
-    ++ page (words (3 ∷ 300 ∷ 0xffffffff ∷ 600 ∷ 20 ∷ 21 ∷ 10 ∷ 11 ∷ 5 ∷ []))
+    ++ page (asBytes (4 ∷ []))
+    ++ page (asBytes (3 ∷ 300 ∷ 0xffffffff ∷ 600 ∷ 20 ∷ 21 ∷ 10 ∷ 11 ∷ 5 ∷ []))
     ++ empty 19
 
 unfoldable pub F : File

@@ -12,8 +12,7 @@ use Rattle.paged.specs.Refusal.{refusalIn}
 use Rattle.paged.specs.PageSize.{PageSize, need}
 use Rattle.paged.specs.Pages.{directoryWord}
 use Rattle.paged.specs.Checks.{checkedIn}
-use Rattle.header.specs.Inner as header
-use Rattle.header.specs.Inner.{headedIn, Locating}
+use Rattle.header.specs.Inner.{headedIn, Heading, Locating}
 use Rattle.header.specs.Promises.{openedIn, Opening}
 use Rattle.directory.specs.Inner.{Reaching}
 use Rattle.directory.specs.Promises.{countedIn, Counting}
@@ -61,7 +60,7 @@ pub record SingleValued : Type 0 where
   pub map-into : (f : File) (len k : ℕ) (limit : Limit) (store : List SourceSlice) →
       Only₂ (MapsInto f len k limit store)
   -- the stages
-  pub parse : (f : File) (len : ℕ) → Only (header.Parsing f len)
+  pub parse : (f : File) (len : ℕ) → Only (Heading f len)
   pub locate : (f : File) (len : ℕ) → Only (Locating f len)
   pub reach : (f : File) (len : ℕ) → Only (Reaching f len)
   pub find : (f : File) (len k : ℕ) → Only (Finding f len k)

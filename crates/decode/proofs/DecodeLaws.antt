@@ -15,6 +15,7 @@ use mir.Val.{toZ, ofZ}
 use Rattle.outcome.specs.Outcome.{Outcome, ok, refused, _>>=_, _>>_, require, raise}
 use Rattle.outcome.specs.Store.{written}
 use Rattle.numbers.specs.Refusal.{Stop, stopIn}
+use Rattle.outcome.proofs.OutcomeLaws.{ok-refused}
 use Rattle.store.proofs.SetsLaws.{sets-append}
 use Rattle.annotations.specs.Annotation.{tripleIn}
 use Rattle.annotations.specs.Step.{PlacedTriple, annotation, end, stepAt}
@@ -145,7 +146,7 @@ length-entries (x ∷ l) = rw length-append (omega (arith, length-entries l))
 all-is : (last : Outcome Stop ℕ) (m n : ℕ) → ok n ≡ (last >> ok m) → n ≡ m
 unfolding _>>_
 all-is (ok place) m n e = cc
-all-is (refused why) m n e = absurd (let z : _≡_ {A = ℕ} 0 1 = cc in omega arith)
+all-is (refused why) m n e = absurd (ok-refused e)
 
 module _ (s : List ℕ) (store : List ℤ) {c : CountedAll} (p : CountingAll s c) where
   pub decode-refused : {why given : PlacedRefusal} → given ≡ whyCountedAll c → c ≡ judged.Refused why → Decoding s store (Refused given) store

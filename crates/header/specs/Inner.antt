@@ -23,7 +23,7 @@ whyHeaded (headed.Refused why) = why
 whyHeaded (headed.Container h) = ShortData
 
 -- steps 1 and 2
-pub record Parsing (f : File) (len : ℕ) (r : Headed) : Type 0 where
+pub record Heading (f : File) (len : ℕ) (r : Headed) : Type 0 where
   pub answer : headedIn r ≡ headed f len
 
 -- steps 1 to 3
