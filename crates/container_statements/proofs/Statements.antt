@@ -9,16 +9,14 @@ use native.Mathlib.Numerals.{add-one}
 use borrow.Author.Tests.{leb-true}
 use lib.ListN.{length, getD}
 use lib.Seq.{sets}
-use Rattle.outcome.specs.Outcome.{Outcome, ok, refused, _>>=_, _>>_}
+use Rattle.outcome.specs.Outcome.{Outcome, ok, refused, _>>=_}
 use Rattle.outcome.specs.Refusal as paper
 use Rattle.outcome.specs.Store.{written}
 use Rattle.outcome.proofs.OutcomeLaws.{came, came-by, ok-is, ok-refused, passed}
 use Rattle.outcome.proofs.OnlyLaws.{only, only₂, only₃}
 use Rattle.parse_buffer.specs.Bytes.{File}
 use Rattle.parse_buffer.specs.Parse.{parseU32, parsedIn}
-use Rattle.paged.specs.PageSize.{need}
 use Rattle.paged.specs.Pages.{through}
-use Rattle.paged.specs.Checks.{liesInFile}
 use Rattle.paged.proofs.SizeLaws.{need-covers, need-least, word-in-page}
 use Rattle.header.specs.Inner.{headedIn}
 use Rattle.stream.specs.Inner.{soughtIn}
@@ -33,8 +31,8 @@ use Rattle.stream.specs.declared.Found.{Found}
 use Rattle.stream.proofs.FindLaws.{found-at, first-at}
 use Rattle.slices.specs.Slices.{Full, total, placeOf}
 use Rattle.slices.proofs.EndToEndLaws.{slices-full, slices-total, slices-place}
-use Rattle.extent.specs.Extent.{lengthOf, Asked, asked, readable}
-use Rattle.mapping.specs.Mapping.{slicesIn, mapping, mappedIn}
+use Rattle.extent.specs.Extent.{Asked, asked, readable}
+use Rattle.mapping.specs.Mapping.{slicesIn, mappedIn}
 use Rattle.msf.specs.Extraction.{bytesIn, extraction, lengthIn}
 use Rattle.msf.specs.Promises.{extractedIn, Extracts}
 use Rattle.msf.proofs.CopyLaws.{through-length, through-at}

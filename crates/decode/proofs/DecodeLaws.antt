@@ -2,7 +2,7 @@
 -- terms of what is wanted, so the loop's end gives the promise.
 use mathlib.Core.Path.{_≡_, refl, sym, _∙_, ap}
 use mathlib.Core.List.{List, [], _∷_, _++_}
-use Prim.Native.Nat.{ℕ, suc, _+_, _-_, _*_, _^_, _≤_, _<_}
+use Prim.Native.Nat.{ℕ, _+_, _-_, _*_, _^_, _≤_, _<_}
 use native.Mathlib.Omega.{arith}
 use native.Mathlib.Numerals.{add-one, add-two}
 use borrow.Author.Tests.{le-leb, lt-leb}
@@ -33,7 +33,6 @@ use Rattle.annotations.specs.declared.step.Step.{Step}
 use Rattle.annotations.specs.declared.step.Step.the-variants as step
 use Rattle.decode.specs.declared.CountedAll.{CountedAll}
 use Rattle.decode.specs.declared.CountedAll.the-variants as judged
-use Rattle.decode.specs.declared.Decoded.{Decoded}
 use Rattle.decode.specs.declared.Decoded.the-variants.{Count, Refused, NoRoom}
 
 -- ---- what a step's promise says once its variant is known

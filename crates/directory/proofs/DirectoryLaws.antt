@@ -1,6 +1,6 @@
 -- The ways out of steps 4 and 5 and of the stream count; what a reached directory is known to be.
 use mathlib.Core.Path.{_≡_, sym, _∙_, ap}
-use Prim.Native.Nat.{ℕ, _*_, _/_, _^_, _≤_, _<_}
+use Prim.Native.Nat.{ℕ, _*_, _^_, _≤_, _<_}
 use native.Mathlib.Omega.{arith}
 use borrow.Author.Tests.{le-leb, lt-leb}
 use mir.Syntax.{w64}
@@ -8,7 +8,6 @@ use mir.Val.{Fits}
 use Rattle.outcome.specs.Outcome.{ok, refused, _>>=_, _>>_, require}
 use Rattle.outcome.proofs.OutcomeLaws.{came, came-by, ok-is}
 use Rattle.parse_buffer.specs.Bytes.{File}
-use Rattle.paged.specs.Refusal.{refusalIn}
 use Rattle.paged.specs.PageSize.{PageSize, need}
 use Rattle.paged.specs.Pages.{location, directoryPage, directoryWord}
 use Rattle.paged.specs.Checks.{checkPages, liesInFile, checkedIn, whyChecked}

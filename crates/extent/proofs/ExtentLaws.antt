@@ -6,7 +6,6 @@ use Rattle.outcome.specs.Outcome.{Outcome, ok, refused, _>>=_, _>>_}
 use Rattle.outcome.specs.Refusal as paper
 use Rattle.outcome.proofs.OutcomeLaws.{came, came-by, ok-is, ok-refused, refused-is}
 use Rattle.parse_buffer.specs.Bytes.{File}
-use Rattle.paged.specs.Refusal.{refusalIn}
 use Rattle.paged.specs.PageSize.{PageSize, need}
 use Rattle.paged.specs.Checks.{liesInFile, checkedIn, whyChecked}
 use Rattle.paged.proofs.SizeLaws.{need-covers, need-least}
@@ -14,14 +13,14 @@ use Rattle.paged.specs.declared.refusal.Refusal.{Refusal}
 use Rattle.paged.specs.declared.pages.Checked.{Checked}
 use Rattle.paged.specs.declared.pages.Checked.the-variants as checked
 use Rattle.directory.proofs.DirectoryLaws.{reached-at}
-use Rattle.stream.specs.Stream.{ownPage, ownPages, found}
+use Rattle.stream.specs.Stream.{ownPages, found}
 use Rattle.stream.specs.Inner.{soughtIn, whySought, Finding}
 use Rattle.stream.proofs.FindLaws.{found-at}
 use Rattle.stream.specs.declared.Found.{Found}
 use Rattle.stream.specs.declared.Sought.{Sought}
 use Rattle.stream.specs.declared.Sought.the-variants as sought
 use Rattle.extent.specs.Extent.{lengthOf, Asked, askedOf, asked, readable, extentOf, pageIn}
-use Rattle.extent.specs.Inner.{Extends, Held, measuredIn, whyMeasured, extents, Measuring, Reading}
+use Rattle.extent.specs.Inner.{Extends, Held, measuredIn, extents, Measuring, Reading}
 use Rattle.extent.specs.declared.limit.Limit.{Limit}
 use Rattle.extent.specs.declared.limit.Limit.the-variants.{None, AtMost}
 use Rattle.extent.specs.declared.Extent.{Extent}

@@ -1,6 +1,6 @@
 -- What the stages of step 8 promise their callers.
 use mathlib.Core.Path.{_≡_}
-use Prim.Native.Nat.{ℕ, _+_, _^_, _≤_, _<_}
+use Prim.Native.Nat.{ℕ, _+_, _^_, _≤_}
 use Rattle.outcome.specs.Outcome.{Outcome, ok, refused, _>>=_}
 use Rattle.outcome.specs.Refusal as paper
 use Rattle.parse_buffer.specs.Bytes.{File}

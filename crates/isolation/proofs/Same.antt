@@ -2,15 +2,13 @@
 -- follows its stage's `do` block line by line: `then-same` and `bind-same` hand on that the line is reached, which is what a
 -- list asks. That a byte is listed is shown afresh each time (`omega`, `cc`), so a list that is too long passes here as it
 -- should: `NamedExactly`, `Stages`, `Corollaries` and `NotTooMuch` refuse it.
-use mathlib.Core.Path.{_≡_, refl, _∙_, ap}
+use mathlib.Core.Path.{_≡_, refl}
 use mathlib.Core.Bool.{Bool, true, false, cond}
 use mathlib.Core.Logic.{⊎-elim}
-use mathlib.Core.List.{List}
 use Prim.Native.Nat.{ℕ, _*_, _/_, min, _<_}
 use native.Mathlib.Omega.{arith}
 use borrow.Author.Tests.{leb-true, le-leb}
-use Rattle.outcome.specs.Outcome.{Outcome, ok, refused, _>>=_, _>>_, require}
-use Rattle.outcome.specs.Store.{written}
+use Rattle.outcome.specs.Outcome.{ok, _>>=_, _>>_, require}
 use Rattle.outcome.proofs.OutcomeLaws.{below-or, passed, bind-same, then-same}
 use Rattle.outcome.proofs.EachLaws.{each-same}
 use Rattle.parse_buffer.specs.Bytes.{File}

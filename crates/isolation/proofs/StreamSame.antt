@@ -17,7 +17,7 @@ use Rattle.stream.specs.declared.Present.{Present}
 use Rattle.stream.specs.declared.Found.{Found}
 use Rattle.stream.proofs.FindLaws.{skipped-at, found-at}
 use Rattle.slices.specs.Slices.{continues, slicesOf}
-use Rattle.extent.specs.Extent.{lengthOf, Asked, asked, readable}
+use Rattle.extent.specs.Extent.{Asked, asked, readable}
 use Rattle.mapping.specs.Mapping.{slicesIn, mapping}
 use Rattle.msf.specs.Extraction.{bytesThrough, bytesIn, extraction}
 use Rattle.extent.proofs.ExtentLaws.{asked-at, readable-at}

@@ -1,14 +1,13 @@
 -- No line of a file of bytes is longer than 80: every number in it is below 2 ^ 32, so it has at most ten digits.
 use mathlib.Core.Path.{_≡_, refl, ap}
-use mathlib.Core.List.{List, [], _∷_}
 use mathlib.Core.Logic.{⊎-elim}
-use Prim.Native.Nat.{ℕ, zero, suc, _+_, _-_, _*_, _/_, _^_, _≤_, _<_}
+use Prim.Native.Nat.{ℕ, zero, suc, _*_, _/_, _^_, _≤_, _<_}
 use native.Mathlib.Omega.{arith}
 use native.Mathlib.Nat.{pow-suc}
 use borrow.Author.Tests.{lt-ltb, le-ltb, leb-true}
 use lib.Dec.{eqb}
 use lib.ListN.{length, length-append}
-use Rattle.outcome.specs.Outcome.{Outcome, ok, refused, _>>=_, _>>_}
+use Rattle.outcome.specs.Outcome.{Outcome, ok, refused, _>>=_}
 use Rattle.outcome.specs.Refusal as paper
 use Rattle.outcome.proofs.OutcomeLaws.{by-test, below-or, came, came-by, ok-is, passed, Each-refusal, refuses-none, refuses-by, refuses-then, refuses-require}
 use Rattle.outcome.proofs.EachLaws.{refuses-each}

@@ -32,7 +32,6 @@ use Rattle.slices.proofs.SliceLaws.{cut-past-pages}
 use Rattle.slices.specs.declared.SourceSlice.{SourceSlice}
 use Rattle.mapping.specs.Mapping.{slicesIn, mapping, mapped, mappedIn}
 use Rattle.mapping.specs.Inner.{noBytes, extentFor, Plans}
-use Rattle.mapping.specs.declared.Mapping.{Mapping}
 use Rattle.mapping.specs.declared.Mapping.the-variants as variant
 use Rattle.mapping.specs.declared.Plan.{Plan}
 

@@ -9,7 +9,7 @@ ghost use Prim.Native.Nat.{_+_, _*_, _%_, _^_, _<_, _≤_};
 ghost use lib.ListN.{length};
 ghost use Rattle.parse_buffer.specs.Bytes.{byteAt};
 ghost use Rattle.paged.specs.PageSize.{PageSize};
-ghost use Rattle.paged.specs.Pages.{through, location, directoryPage, directoryWord, pageOf, entryOf};
+ghost use Rattle.paged.specs.Pages.{location, directoryPage, directoryWord, pageOf, entryOf};
 ghost use Rattle.paged.specs.Checks.{pageFits, wanted, checkPages, liesInFile, checkedIn, whyChecked};
 
 // The location entries follow the header's 52 bytes.

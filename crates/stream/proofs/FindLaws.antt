@@ -2,12 +2,10 @@
 -- found is known to be.
 use mathlib.Core.Path.{_≡_, refl, sym, _∙_, ap}
 use mathlib.Core.Bool.{false}
-use Prim.Native.Nat.{ℕ, _+_, _-_, _/_, _^_, min, _≤_, _<_}
+use Prim.Native.Nat.{ℕ, _+_, _-_, _^_, min, _≤_, _<_}
 use native.Mathlib.Omega.{arith}
 use borrow.Author.Tests.{le-leb, lt-leb, leb-true, not-true}
 use lib.Dec.{eqb}
-use mir.Syntax.{w64}
-use mir.Val.{Fits}
 use Rattle.outcome.specs.Outcome.{ok, refused, _>>=_, _>>_, require}
 use Rattle.outcome.specs.Refusal as paper
 use Rattle.outcome.proofs.OutcomeLaws.{came, came-by, ok-is, passed, Each-refusal, refuses-none, refuses-by, refuses-then, refuses-require}
@@ -30,7 +28,6 @@ use Rattle.stream.specs.declared.Found.{Found}
 use Rattle.stream.specs.declared.Present.{Present}
 use Rattle.stream.specs.declared.Presence.{Presence}
 use Rattle.stream.specs.declared.Presence.the-variants as presence
-use Rattle.stream.specs.declared.Sought.{Sought}
 use Rattle.stream.specs.declared.Sought.the-variants as sought
 
 -- ---- the sizes

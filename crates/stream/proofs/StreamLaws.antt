@@ -1,6 +1,6 @@
 -- The pages of streams, and the ways out of the first part of step 7: the stream's size.
 use mathlib.Core.Path.{_≡_, refl, sym, _∙_, ap}
-use Prim.Native.Nat.{ℕ, _+_, _*_, _/_, _^_, _≤_, _<_}
+use Prim.Native.Nat.{ℕ, _+_, _*_, _^_, _≤_, _<_}
 use native.Mathlib.Omega.{arith}
 use native.Mathlib.Nat.{mul-le-mul-left, le-antisymm}
 use native.Mathlib.Numerals.{add-one}
@@ -28,7 +28,6 @@ use Rattle.directory.proofs.DirectoryLaws.{reached-at}
 use Rattle.stream.specs.Stream.{absent, pagesOf, pagesBefore, present}
 use Rattle.stream.specs.Inner.{presenceIn, Before, Sizing}
 use Rattle.stream.specs.declared.Present.{Present}
-use Rattle.stream.specs.declared.Presence.{Presence}
 use Rattle.stream.specs.declared.Presence.the-variants as presence
 
 -- ---- `pages_of`: an absent stream has none, and a stream of 32 bits at most 2^24
