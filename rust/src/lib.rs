@@ -1,27 +1,10 @@
 //! Reads the container of PDB files (MSF) and decodes binary annotations, with a proved library.
 //!
-//! [`open`], [`stream_count`], [`map`] and [`extract`] read a container; [`number`], [`step`] and [`decode`] read
-//! annotations. Every function returns for any input, and none allocates.
-//!
-//! # Stores
-//!
-//! The caller lends a store for an answer of many entries. A success writes the first entries, as many as it returns,
-//! and leaves the others. A refusal writes nothing. If the store is too small, refusal 10 says how many entries are
-//! needed, so an empty store asks for the size:
+//! [`open`], [`stream_count`], [`map`] and [`extract`] read a container; [`stream_length`] and [`extract_to_vec`] are for
+//! whole streams; [`number`], [`step`] and [`decode`] read annotations. Every function returns for any input.
 //!
 //! ```
-//! use trovespan::Refusal;
-//!
-//! /// The bytes of a stream.
-//! fn whole(file: &[u8], stream: u32) -> Result<Vec<u8>, Refusal> {
-//!     let room = match trovespan::extract(file, stream, None, &mut []) {
-//!         Err(Refusal { number: 10, value }) => value as usize,
-//!         answer => answer?,
-//!     };
-//!     let mut bytes = vec![0; room];
-//!     trovespan::extract(file, stream, None, &mut bytes)?;
-//!     Ok(bytes)
-//! }
+//! use trovespan::{ExtractError, Refusal, AT_MOST};
 //!
 //! // Sixteen pages of 256 bytes. Page 1 has the location list, page 2 the directory: stream count, size, page.
 //! let mut file = vec![0; 4096];
@@ -31,10 +14,23 @@
 //! }
 //! file[768..773].copy_from_slice(b"hello");
 //!
-//! assert_eq!(whole(&file, 0).unwrap(), b"hello");
-//! assert_eq!(whole(&file, 1), Err(Refusal { number: 5, value: 1 }));
-//! assert_eq!(whole(&[], 0), Err(Refusal { number: 1, value: 0 }));
+//! assert_eq!(trovespan::extract_to_vec(&file, 0, AT_MOST).unwrap(), b"hello");
+//! let too_long = trovespan::extract_to_vec(&file, 0, 4);
+//! assert_eq!(too_long, Err(ExtractError::TooLong { length: 5, at_most: 4 }));
+//! assert_eq!(trovespan::stream_length(&file, 0), Ok(5));
+//! assert_eq!(trovespan::stream_length(&file, 1), Err(Refusal { number: 5, value: 1 }));
 //! ```
+//!
+//! # Untrusted files
+//!
+//! A file may say anything. A file of 28 KB can name one page a million times, and then has a stream of 4 GB: compare a
+//! length with a limit before allocating. [`extract_to_vec`] does that, and is the only function that allocates.
+//!
+//! # Stores
+//!
+//! The caller lends a store for an answer of many entries. A success writes the first entries, as many as it returns,
+//! and leaves the others. A refusal writes nothing. If the store is too small, refusal 10 says how many entries are
+//! needed, so an empty store asks for the size.
 //!
 //! # Refusals
 //!
@@ -55,9 +51,12 @@
 #![deny(unsafe_code)]
 #![warn(missing_docs)]
 
+mod extraction;
 #[allow(unsafe_code)]
 mod ffi;
 mod said;
+
+pub use extraction::{extract_to_vec, stream_length, ExtractError, AT_MOST};
 
 /// Why a function refuses. See [the table](crate#refusals) of numbers and values.
 #[derive(Clone, Copy, Debug, PartialEq, Eq, Hash)]

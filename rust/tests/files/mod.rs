@@ -61,6 +61,24 @@ pub fn f_overfull() -> Vec<u8> {
     file
 }
 
+/// How long the stream of `hostile` is: a million pages of 4,096 bytes.
+pub const HOSTILE_LENGTH: usize = 4_096_000_000;
+
+/// A file of 28 KB whose one stream names page 5 a million times. The directory names page 4 for all its pages but the
+/// first.
+pub fn hostile() -> Vec<u8> {
+    const PAGE: usize = 4096;
+    let mut file = vec![0; 7 * PAGE];
+    file[..MAGIC.len()].copy_from_slice(MAGIC);
+    put(&mut file, PAGE_SIZE, &[PAGE as u32, 1, 6, 8 + 4 * 1_000_000, 0, 2]);
+    put(&mut file, 2 * PAGE, &[4; 977]);
+    put(&mut file, 2 * PAGE, &[3]);
+    put(&mut file, 3 * PAGE, &[5; PAGE / 4]);
+    put(&mut file, 3 * PAGE, &[1, HOSTILE_LENGTH as u32]);
+    put(&mut file, 4 * PAGE, &[5; PAGE / 4]);
+    file
+}
+
 /// The bytes of F's streams.
 pub fn stream_0() -> Vec<u8> {
     f()[5120..5420].to_vec()
