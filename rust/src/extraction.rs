@@ -1,6 +1,6 @@
 //! Whole streams: their length, and their bytes in a new vector.
 
-use crate::{extract, Refusal, NO_ROOM};
+use crate::{extract, Kind, Refusal};
 use std::error::Error;
 use std::fmt::{self, Display, Formatter};
 
@@ -34,7 +34,7 @@ pub enum ExtractError {
 /// Refuses as [`extract`] does, but never with 10. So all bytes of a stream that has a length are in the file.
 pub fn stream_length(file: &[u8], stream: u32) -> Result<usize, Refusal> {
     match extract(file, stream, None, &mut []) {
-        Err(Refusal { number: NO_ROOM, value }) => Ok(value as usize),
+        Err(why) if why.kind() == Kind::NoRoom => Ok(why.value as usize),
         answer => answer,
     }
 }

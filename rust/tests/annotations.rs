@@ -1,7 +1,10 @@
 //! The functions on binary annotations: accepted, and refused with every refusal they can give, with the store after
 //! it.
 
-use trovespan::{decode, number, step, DecodeRefusal, Refusal, Step, ENTRIES_EACH};
+mod fields;
+
+use fields::{stepped, Found};
+use trovespan::{decode, number, DecodeRefusal, Refusal, ENTRIES_EACH};
 
 /// What a store holds before a call.
 const BEFORE: i64 = -0x5eed_5eed_5eed_5eed;
@@ -11,10 +14,6 @@ const INVALID_NUMBER: Refusal = Refusal { number: 8, value: 0 };
 
 fn unknown_opcode(opcode: u64) -> Refusal {
     Refusal { number: 9, value: opcode }
-}
-
-fn annotation(opcode: u32, first: i64, second: i64) -> Step {
-    Step::Annotation { opcode, first, second }
 }
 
 #[test]
@@ -73,34 +72,34 @@ fn reads_numbers_at_any_place() {
 fn steps_over_each_annotation() {
     for opcode in 1..=13u8 {
         let wanted = match opcode {
-            6 | 10 => annotation(opcode.into(), -7, 0),
-            11 => annotation(11, 15, 0),
-            12 => annotation(12, 15, 16),
-            _ => annotation(opcode.into(), 15, 0),
+            6 | 10 => Found::Annotation(opcode.into(), -7, 0),
+            11 => Found::Annotation(11, 15, 0),
+            12 => Found::Annotation(12, 15, 16),
+            _ => Found::Annotation(opcode.into(), 15, 0),
         };
         let length = if opcode == 12 { 3 } else { 2 };
-        assert_eq!(step(&[opcode, 15, 16], 0), (wanted, length));
+        assert_eq!(stepped(&[opcode, 15, 16], 0), (wanted, length));
     }
 }
 
 #[test]
 fn reads_signed_operands() {
     for (operand, value) in [(0, 0), (1, 0), (2, 1), (3, -1), (14, 7), (15, -7)] {
-        assert_eq!(step(&[6, operand], 0), (annotation(6, value, 0), 2));
-        assert_eq!(step(&[10, operand], 0), (annotation(10, value, 0), 2));
+        assert_eq!(stepped(&[6, operand], 0), (Found::Annotation(6, value, 0), 2));
+        assert_eq!(stepped(&[10, operand], 0), (Found::Annotation(10, value, 0), 2));
     }
     let largest = [6, 0xdf, 0xff, 0xff, 0xff];
-    assert_eq!(step(&largest, 0), (annotation(6, -268_435_455, 0), 5));
-    assert_eq!(step(&[11, 0x72], 0), (annotation(11, 2, -3), 2));
+    assert_eq!(stepped(&largest, 0), (Found::Annotation(6, -268_435_455, 0), 5));
+    assert_eq!(stepped(&[11, 0x72], 0), (Found::Annotation(11, 2, -3), 2));
 }
 
 #[test]
 fn steps_to_the_end() {
-    assert_eq!(step(&[], 0), (Step::End, 0));
-    assert_eq!(step(&[0, 3, 5], 0), (Step::End, 3));
+    assert_eq!(stepped(&[], 0), (Found::End, 0));
+    assert_eq!(stepped(&[0, 3, 5], 0), (Found::End, 3));
     for at in [2, 3, usize::MAX - 1, usize::MAX] {
-        assert_eq!(step(&[3, 5], at), (Step::End, 2));
-        assert_eq!(step(&[], at), (Step::End, 0));
+        assert_eq!(stepped(&[3, 5], at), (Found::End, 2));
+        assert_eq!(stepped(&[], at), (Found::End, 0));
     }
 }
 
@@ -117,7 +116,7 @@ fn refuses_steps() {
         (&[0xdf, 0xff, 0xff, 0xff, 5], unknown_opcode(536_870_911), 4),
     ];
     for (bytes, why, next) in refused {
-        assert_eq!(step(bytes, 0), (Step::Refused(why), next));
+        assert_eq!(stepped(bytes, 0), (Found::Refused(why), next));
     }
 }
 
@@ -127,12 +126,16 @@ fn goes_on_after_each_step() {
     let mut at = 0;
     let mut steps = vec![];
     while at < bytes.len() {
-        let (found, next) = step(&bytes, at);
+        let (found, next) = stepped(&bytes, at);
         steps.push((found, next));
         at = next;
     }
-    let wanted =
-        [(annotation(3, 5, 0), 2), (Step::Refused(unknown_opcode(14)), 3), (annotation(12, 1, 2), 6), (Step::End, 8)];
+    let wanted = [
+        (Found::Annotation(3, 5, 0), 2),
+        (Found::Refused(unknown_opcode(14)), 3),
+        (Found::Annotation(12, 1, 2), 6),
+        (Found::End, 8),
+    ];
     assert_eq!(steps, wanted);
 }
 

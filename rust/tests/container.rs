@@ -1,9 +1,11 @@
 //! The functions on containers: accepted, and refused with every refusal they can give, with the stores after it.
 
+mod fields;
 mod files;
 
+use fields::{map_counts, opened};
 use files::*;
-use trovespan::{extract, map, open, stream_count, Mapped, Opened, Refusal};
+use trovespan::{extract, stream_count, Refusal};
 
 /// What a store holds before a call.
 const BEFORE: u64 = 0xdead_beef_dead_beef;
@@ -79,10 +81,10 @@ fn mapped(
     rooms: (usize, usize),
 ) -> Result<(Vec<(u64, u64)>, usize), Refusal> {
     let (mut offsets, mut sizes) = (vec![BEFORE; rooms.0], vec![BEFORE; rooms.1]);
-    let answer = map(file, stream, limit, &mut offsets, &mut sizes);
-    let written = answer.map_or(0, |mapped| mapped.slices);
+    let answer = map_counts(file, stream, limit, &mut offsets, &mut sizes);
+    let written = answer.map_or(0, |(slices, _)| slices);
     assert!(offsets[written..].iter().chain(&sizes[written..]).all(|entry| *entry == BEFORE));
-    let Mapped { slices, length } = answer?;
+    let (slices, length) = answer?;
     Ok((offsets.into_iter().zip(sizes).take(slices).collect(), length))
 }
 
@@ -102,23 +104,23 @@ fn past_the_file() -> Vec<(Vec<u8>, u32)> {
 
 #[test]
 fn opens() {
-    assert_eq!(open(&f()), Ok(Opened { page_size: 256, pages_used: 24 }));
-    assert_eq!(open(&f_cut(4096)), Ok(Opened { page_size: 256, pages_used: 24 }));
-    assert_eq!(open(&f_with(PAGE_SIZE, 0x80_0000)), Ok(Opened { page_size: 0x80_0000, pages_used: 24 }));
-    assert_eq!(open(&f_with(PAGES_USED, u32::MAX)), Ok(Opened { page_size: 256, pages_used: u32::MAX }));
+    assert_eq!(opened(&f()), Ok((256, 24)));
+    assert_eq!(opened(&f_cut(4096)), Ok((256, 24)));
+    assert_eq!(opened(&f_with(PAGE_SIZE, 0x80_0000)), Ok((0x80_0000, 24)));
+    assert_eq!(opened(&f_with(PAGES_USED, u32::MAX)), Ok((256, u32::MAX)));
 }
 
 #[test]
 fn refuses_to_open() {
     for (file, why) in unopened() {
-        assert_eq!(open(&file), Err(why));
+        assert_eq!(opened(&file), Err(why));
     }
 }
 
 #[test]
 fn opening_does_not_read_the_directory() {
     for (file, _) in uncounted() {
-        assert_eq!(open(&file), Ok(Opened { page_size: 256, pages_used: word(&file, PAGES_USED) }));
+        assert_eq!(opened(&file), Ok((256, word(&file, PAGES_USED))));
     }
 }
 

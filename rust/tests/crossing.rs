@@ -5,8 +5,10 @@
 //! returns the first byte that it is lent, and writes numbers of 64 bits: those that it is given, or `VALUE` and
 //! `OTHER`.
 
-use trovespan::{decode, extract, map, number, open, step, stream_count};
-use trovespan::{DecodeRefusal, Mapped, Opened, Refusal, Step};
+mod fields;
+
+use fields::{map_counts, opened, stepped, Found};
+use trovespan::{decode, extract, number, stream_count, DecodeRefusal, Refusal};
 
 const VALUE: u64 = 0xfedc_ba98_7654_3210;
 const OTHER: u64 = 0xf0e1_d2c3_b4a5_9687;
@@ -97,20 +99,20 @@ fn refusal(number: u32) -> Refusal {
 
 #[test]
 fn opening_and_counting() {
-    assert_eq!(open(&[0]), Ok(Opened { page_size: VALUE as u32, pages_used: OTHER as u32 }));
-    assert_eq!(open(&[3]), Err(refusal(3)));
+    assert_eq!(opened(&[0]), Ok((VALUE as u32, OTHER as u32)));
+    assert_eq!(opened(&[3]), Err(refusal(3)));
     assert_eq!(stream_count(&[0]), Ok(VALUE as u32));
     assert_eq!(stream_count(&[4]), Err(refusal(4)));
 }
 
 #[test]
 fn mapping() {
-    let mapped = |length: u64| Ok(Mapped { slices: VALUE as usize, length: length as usize });
-    assert_eq!(map(&[0], 0, None, &mut [], &mut []), mapped(OTHER));
+    let mapped = |length: u64| Ok((VALUE as usize, length as usize));
+    assert_eq!(map_counts(&[0], 0, None, &mut [], &mut []), mapped(OTHER));
     for limit in [0, 1 << 16, 1 << 32, OTHER, u64::MAX] {
-        assert_eq!(map(&[0], 0, Some(limit as usize), &mut [], &mut []), mapped(limit));
+        assert_eq!(map_counts(&[0], 0, Some(limit as usize), &mut [], &mut []), mapped(limit));
     }
-    assert_eq!(map(&[10], 0, None, &mut [], &mut []), Err(refusal(10)));
+    assert_eq!(map_counts(&[10], 0, None, &mut [], &mut []), Err(refusal(10)));
 }
 
 #[test]
@@ -124,12 +126,12 @@ fn extracting() {
 
 #[test]
 fn numbers_and_steps() {
-    let found = Step::Annotation { opcode: VALUE as u32, first: i64::MIN + 1, second: i64::MAX - 1 };
+    let found = Found::Annotation(VALUE as u32, i64::MIN + 1, i64::MAX - 1);
     for at in [0, 1 << 16, 1 << 32, OTHER, u64::MAX].map(|at| at as usize) {
         assert_eq!(number(&[0], at), (Ok(VALUE as u32), at));
         assert_eq!(number(&[8], at), (Err(refusal(8)), at));
-        assert_eq!(step(&[0], at), (found, at));
-        assert_eq!(step(&[9], at), (Step::Refused(refusal(9)), at));
+        assert_eq!(stepped(&[0], at), (found, at));
+        assert_eq!(stepped(&[9], at), (Found::Refused(refusal(9)), at));
     }
 }
 

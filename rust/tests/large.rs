@@ -1,11 +1,13 @@
 //! Lengths, places, limits and counts of more than 16 and of more than 32 bits. The lent memory is a little longer than
 //! 2^32, so that a length cut to 16 or 32 bits is close to 0.
 
+mod fields;
 mod files;
 mod zeros;
 
+use fields::{map_counts, opened, stepped, Found};
 use files::*;
-use trovespan::{decode, extract, map, number, open, step, stream_count, DecodeRefusal, Mapped, Opened, Refusal, Step};
+use trovespan::{decode, extract, number, stream_count, DecodeRefusal, Refusal};
 use zeros::zeros;
 
 /// The first numbers that take 17 and 33 bits.
@@ -19,9 +21,9 @@ fn files_over_4_gib() {
     let file = zeros::<u8>(BITS_33 + 100);
     file[..6144].copy_from_slice(&f());
     let (mut offsets, mut sizes, mut out) = ([0; 2], [0; 2], [0; 600]);
-    assert_eq!(open(file), Ok(Opened { page_size: 256, pages_used: 24 }));
+    assert_eq!(opened(file), Ok((256, 24)));
     assert_eq!(stream_count(file), Ok(3));
-    assert_eq!(map(file, 2, None, &mut offsets, &mut sizes), Ok(Mapped { slices: 2, length: 600 }));
+    assert_eq!(map_counts(file, 2, None, &mut offsets, &mut sizes), Ok((2, 600)));
     assert_eq!((offsets, sizes), ([2560, 1280], [512, 88]));
     assert_eq!(extract(file, 2, None, &mut out), Ok(600));
     assert_eq!(out[..], stream_2());
@@ -30,12 +32,12 @@ fn files_over_4_gib() {
 /// Two entries are needed, or three. A success writes only these.
 #[test]
 fn stores_over_2_32_entries() {
-    let mapped = Ok(Mapped { slices: 2, length: 600 });
+    let mapped = Ok((2, 600));
     let long = zeros::<u64>(BITS_33 + 1);
     let mut short = [0; 2];
-    assert_eq!(map(&f(), 2, None, long, &mut short), mapped);
+    assert_eq!(map_counts(&f(), 2, None, long, &mut short), mapped);
     assert_eq!((&long[..3], short), (&[2560, 1280, 0][..], [512, 88]));
-    assert_eq!(map(&f(), 2, None, &mut short, long), mapped);
+    assert_eq!(map_counts(&f(), 2, None, &mut short, long), mapped);
     assert_eq!((short, &long[..3]), ([2560, 1280], &[512, 88, 0][..]));
 
     let store = zeros::<i64>(BITS_33 + 1);
@@ -56,10 +58,10 @@ fn strings_over_4_gib() {
     let bytes = zeros::<u8>(BITS_33 + 1);
     bytes[..2].copy_from_slice(&[3, 5]);
     bytes[BITS_33 - 2..].copy_from_slice(&[12, 0x7f, 0]);
-    let found = Step::Annotation { opcode: 12, first: 127, second: 0 };
-    assert_eq!(step(bytes, BITS_33 - 2), (found, BITS_33 + 1));
-    assert_eq!(step(bytes, BITS_33 - 1), (Step::Refused(Refusal { number: 9, value: 127 }), BITS_33));
-    assert_eq!(step(bytes, BITS_33), (Step::End, BITS_33 + 1));
+    let found = Found::Annotation(12, 127, 0);
+    assert_eq!(stepped(bytes, BITS_33 - 2), (found, BITS_33 + 1));
+    assert_eq!(stepped(bytes, BITS_33 - 1), (Found::Refused(Refusal { number: 9, value: 127 }), BITS_33));
+    assert_eq!(stepped(bytes, BITS_33), (Found::End, BITS_33 + 1));
     assert_eq!(number(bytes, BITS_33), (Ok(0), BITS_33 + 1));
     assert_eq!(number(bytes, BITS_33 + 1), (Err(SHORT_DATA), BITS_33 + 1));
     let mut store = [0; 3];
@@ -71,7 +73,7 @@ fn strings_over_4_gib() {
 fn places_far_past_a_string() {
     for at in [BITS_17, BITS_17 + 1, BITS_33, BITS_33 + 1, BITS_33 * BITS_17, usize::MAX] {
         assert_eq!(number(&[3, 5], at), (Err(SHORT_DATA), 2));
-        assert_eq!(step(&[3, 5], at), (Step::End, 2));
+        assert_eq!(stepped(&[3, 5], at), (Found::End, 2));
     }
 }
 
@@ -79,8 +81,8 @@ fn places_far_past_a_string() {
 fn limits_far_past_a_stream() {
     for limit in [BITS_17, BITS_17 + 1, BITS_33, BITS_33 + 1, BITS_33 << 8, usize::MAX] {
         let (mut offsets, mut sizes, mut out) = ([0; 2], [0; 2], [0; 600]);
-        let mapped = map(&f(), 2, Some(limit), &mut offsets, &mut sizes);
-        assert_eq!(mapped, Ok(Mapped { slices: 2, length: 600 }));
+        let mapped = map_counts(&f(), 2, Some(limit), &mut offsets, &mut sizes);
+        assert_eq!(mapped, Ok((2, 600)));
         assert_eq!(extract(&f(), 2, Some(limit), &mut out), Ok(600));
     }
 }
@@ -92,7 +94,7 @@ fn more_than_65536_annotations() {
     let mut bytes = vec![1; 2 * count];
     let mut store = vec![0; 3 * count];
     assert_eq!(number(&bytes, 2 * count - 1), (Ok(1), 2 * count));
-    assert_eq!(step(&bytes, 2 * count - 2), (Step::Annotation { opcode: 1, first: 1, second: 0 }, 2 * count));
+    assert_eq!(stepped(&bytes, 2 * count - 2), (Found::Annotation(1, 1, 0), 2 * count));
     assert_eq!(decode(&bytes, &mut store), Ok(count));
     assert!(store.chunks(3).all(|annotation| annotation == [1, 1, 0]));
 
@@ -101,7 +103,7 @@ fn more_than_65536_annotations() {
 
     bytes.extend([0xdf, 0xff, 0xff, 0xff]);
     let unknown = Refusal { number: 9, value: 536_870_911 };
-    assert_eq!(step(&bytes, 2 * count), (Step::Refused(unknown), 2 * count + 4));
+    assert_eq!(stepped(&bytes, 2 * count), (Found::Refused(unknown), 2 * count + 4));
     assert_eq!(decode(&bytes, &mut store), Err(DecodeRefusal { refusal: unknown, place: Some(2 * count + 4) }));
 }
 
@@ -113,8 +115,8 @@ fn the_largest_stream() {
     const SIZE: u32 = 0xffff_fffe;
     let file = paged(SIZE, &[1; 512]);
     let (mut offsets, mut sizes) = ([0; 512], [0; 512]);
-    let mapped = Mapped { slices: 512, length: SIZE as usize };
-    assert_eq!(map(&file, 0, None, &mut offsets, &mut sizes), Ok(mapped));
+    let mapped = (512, SIZE as usize);
+    assert_eq!(map_counts(&file, 0, None, &mut offsets, &mut sizes), Ok(mapped));
     assert!(offsets.iter().all(|offset| *offset == 1 << 23));
     assert_eq!(sizes.iter().sum::<u64>(), SIZE.into());
     for limit in [None, Some(BITS_33), Some(BITS_33 << 8), Some(usize::MAX)] {
@@ -129,7 +131,7 @@ fn slices_past_4_gib() {
     let pages = [511, 512, 600, 0x8000_0000, 0xffff_ffff];
     let file = paged(5 << 23, &pages);
     let (mut offsets, mut sizes) = ([0; 4], [0; 4]);
-    assert_eq!(map(&file, 0, None, &mut offsets, &mut sizes), Ok(Mapped { slices: 4, length: 5 << 23 }));
+    assert_eq!(map_counts(&file, 0, None, &mut offsets, &mut sizes), Ok((4, 5 << 23)));
     assert_eq!(offsets, [511 << 23, 600 << 23, 1 << 54, 0xffff_ffff << 23]);
     assert_eq!(sizes, [2 << 23, 1 << 23, 1 << 23, 1 << 23]);
 }

@@ -21,7 +21,7 @@ pub fn write(bytes: &[u8], text: &mut String, totals: &mut Totals) -> Result<(),
     while at < bytes.len() {
         let (step, next) = trovespan::step(bytes, at);
         let said = match step {
-            Step::Annotation { opcode, first, second } => {
+            Step::Annotation { opcode, first, second, .. } => {
                 stepped.extend([i64::from(opcode), first, second]);
                 totals.opcodes[opcode as usize] += 1;
                 count_widths(bytes, at, next, totals)?;

@@ -37,6 +37,7 @@ fn by_the_rules(step: trovespan::Step) -> Step {
             opcode,
             first,
             second,
+            ..
         } => Step::Annotation([i64::from(opcode), first, second], None),
         trovespan::Step::End => Step::End,
         trovespan::Step::Refused(why) => Step::Refused(refusal(why)),

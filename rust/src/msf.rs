@@ -1,0 +1,76 @@
+//! The functions on a container. The caller lends the file, and a store for each answer of many entries.
+
+use crate::{ffi, Refusal};
+
+/// The header of a container.
+#[derive(Clone, Copy, Debug, PartialEq, Eq, Hash)]
+#[non_exhaustive]
+pub struct Opened {
+    /// The number of bytes in a page.
+    pub page_size: u32,
+    /// The number of pages used, which is also the largest page number that is not refused.
+    pub pages_used: u32,
+}
+
+/// What [`map`] returns.
+#[derive(Clone, Copy, Debug, PartialEq, Eq, Hash)]
+#[non_exhaustive]
+pub struct Mapped {
+    /// The number of slices, which is the number of entries written to each store.
+    pub slices: usize,
+    /// The number of bytes in all slices.
+    pub length: usize,
+}
+
+/// Opens a container and returns its page size and the number of pages used.
+///
+/// # Errors
+///
+/// Refuses with 1, 2, 3, 4 or 7.
+pub fn open(file: &[u8]) -> Result<Opened, Refusal> {
+    let (number, value, used) = ffi::open(file);
+    Refusal::judge(number, value)?;
+    Ok(Opened { page_size: value as u32, pages_used: used as u32 })
+}
+
+/// Returns the number of streams in a container, absent ones included.
+///
+/// # Errors
+///
+/// Refuses as [`open`] does, and with 6.
+pub fn stream_count(file: &[u8]) -> Result<u32, Refusal> {
+    let (number, value) = ffi::stream_count(file);
+    Refusal::judge(number, value)?;
+    Ok(value as u32)
+}
+
+/// Maps a stream, or its first `limit` bytes, to slices of the file. Writes where each slice begins to `offsets`, and
+/// its length to `sizes`. The slices, in order, are the stream. A slice may lie past the end of the file; [`extract`]
+/// refuses that.
+///
+/// # Errors
+///
+/// Refuses as [`stream_count`] does, with 5, and with 10 if the shorter store has fewer entries than there are slices.
+/// All page numbers of the stream are checked, whatever the limit.
+pub fn map(
+    file: &[u8],
+    stream: u32,
+    limit: Option<usize>,
+    offsets: &mut [u64],
+    sizes: &mut [u64],
+) -> Result<Mapped, Refusal> {
+    let (number, value, total) = ffi::map(file, stream, limit, offsets, sizes);
+    Refusal::judge(number, value)?;
+    Ok(Mapped { slices: value as usize, length: total as usize })
+}
+
+/// Copies a stream, or its first `limit` bytes, to the front of `out`, and returns the number of bytes copied.
+///
+/// # Errors
+///
+/// Refuses as [`map`] does, with 6 also if a slice reaches past the end of the file, and with 10 if `out` is too short.
+pub fn extract(file: &[u8], stream: u32, limit: Option<usize>, out: &mut [u8]) -> Result<usize, Refusal> {
+    let (number, value) = ffi::extract(file, stream, limit, out);
+    Refusal::judge(number, value)?;
+    Ok(value as usize)
+}
