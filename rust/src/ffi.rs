@@ -2,7 +2,20 @@
 //!
 //! No compiler checks these declarations against `crates/trovespan/src/lib.rt`. `tests/crate/run` does, word by word,
 //! and the comparison with pdb calls each function.
-#![deny(unsafe_op_in_unsafe_fn)]
+//!
+//! What each function asks of its caller:
+//!
+//! - Every pointer is valid for the length beside it, or for one number, and is aligned.
+//! - What is written overlaps nothing else that is lent.
+//! - Nobody changes the lent bytes during the call. The functions judge first and then write without a check at run
+//!   time, so bytes that change in between may make them write past the end of a store.
+//!
+//! Rust's borrows guarantee all three. A slice of a shared memory mapping that another process writes breaks the third,
+//! and is no valid `&[u8]` in the first place.
+//!
+//! The functions ask for no more: they are proved for any contents and lengths, read and write only within them, and
+//! keep no pointer. They read nothing through the pointer of an empty slice.
+#![deny(unsafe_op_in_unsafe_fn, clippy::undocumented_unsafe_blocks)]
 
 mod c {
     extern "C" {
@@ -55,25 +68,24 @@ mod c {
 /// The opcode of a step at the end.
 pub const NO_OPCODE: u32 = 0;
 
-// SAFETY, of each call below: every pointer is that of a slice, or of a number, borrowed for the call, and every length
-// is that slice's. So the memory is there and aligned, and what is written overlaps nothing else that is lent. The
-// callee asks for no more: it is proved for any contents and lengths, reads and writes only within them, and keeps no
-// pointer. It reads nothing through the pointer of an empty slice.
-
 pub fn open(file: &[u8]) -> (u32, u64, u64) {
     let (mut value, mut used) = (0, 0);
+    // SAFETY: `file` is borrowed for the call, with its own length; `value` and `used` are different local numbers.
     let number = unsafe { c::trovespan_open(file.as_ptr(), file.len(), &mut value, &mut used) };
     (number, value, used)
 }
 
 pub fn stream_count(file: &[u8]) -> (u32, u64) {
     let mut value = 0;
+    // SAFETY: `file` is borrowed for the call, with its own length; `value` is a local number.
     let number = unsafe { c::trovespan_stream_count(file.as_ptr(), file.len(), &mut value) };
     (number, value)
 }
 
 pub fn map(file: &[u8], stream: u32, limit: Option<usize>, offsets: &mut [u64], sizes: &mut [u64]) -> (u32, u64, u64) {
     let (mut value, mut total) = (0, 0);
+    // SAFETY: `file`, `offsets` and `sizes` are borrowed for the call, each with its own length, and the two stores
+    // mutably, so they overlap nothing; `value` and `total` are different local numbers.
     let number = unsafe {
         c::trovespan_map(
             file.as_ptr(),
@@ -94,6 +106,8 @@ pub fn map(file: &[u8], stream: u32, limit: Option<usize>, offsets: &mut [u64], 
 
 pub fn extract(file: &[u8], stream: u32, limit: Option<usize>, out: &mut [u8]) -> (u32, u64) {
     let mut value = 0;
+    // SAFETY: `file` and `out` are borrowed for the call, each with its own length, and `out` mutably, so they do not
+    // overlap; `value` is a local number.
     let number = unsafe {
         c::trovespan_extract(
             file.as_ptr(),
@@ -111,12 +125,15 @@ pub fn extract(file: &[u8], stream: u32, limit: Option<usize>, out: &mut [u8]) -
 
 pub fn number(bytes: &[u8], at: usize) -> (u32, u64, u64) {
     let (mut value, mut next) = (0, 0);
+    // SAFETY: `bytes` is borrowed for the call, with its own length; `value` and `next` are different local numbers.
     let number = unsafe { c::trovespan_number(bytes.as_ptr(), bytes.len(), at, &mut value, &mut next) };
     (number, value, next)
 }
 
 pub fn step(bytes: &[u8], at: usize) -> (u32, u64, i64, i64, u64) {
     let (mut value, mut first, mut second, mut next) = (0, 0, 0, 0);
+    // SAFETY: `bytes` is borrowed for the call, with its own length; `value`, `first`, `second` and `next` are
+    // different local numbers.
     let number =
         unsafe { c::trovespan_step(bytes.as_ptr(), bytes.len(), at, &mut value, &mut first, &mut second, &mut next) };
     (number, value, first, second, next)
@@ -124,6 +141,8 @@ pub fn step(bytes: &[u8], at: usize) -> (u32, u64, i64, i64, u64) {
 
 pub fn decode(bytes: &[u8], store: &mut [i64]) -> (u32, u64, u64) {
     let (mut value, mut place) = (0, 0);
+    // SAFETY: `bytes` and `store` are borrowed for the call, each with its own length, and `store` mutably, so they do
+    // not overlap; `value` and `place` are different local numbers.
     let number = unsafe {
         c::trovespan_decode(bytes.as_ptr(), bytes.len(), store.as_mut_ptr(), store.len(), &mut value, &mut place)
     };

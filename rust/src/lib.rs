@@ -26,6 +26,13 @@
 //! A file may say anything. A file of 28 KB can name one page a million times, and then has a stream of 4 GB: compare a
 //! length with a limit before allocating. [`extract_to_vec`] does that, and is the only function that allocates.
 //!
+//! # Lent bytes must not change during a call
+//!
+//! The functions first judge the lent bytes, and then write without further checks. If the bytes change in between, a
+//! function may write past the end of a store. Rust's `&[u8]` forbids such a change, but with a shared memory mapping
+//! of the file another process can make one. So read the file, or map a private copy: a copy that nobody else writes.
+//! (A private mapping of the file itself is not enough. It may show what others write to the file.)
+//!
 //! # Stores
 //!
 //! The caller lends a store for an answer of many entries. A success writes the first entries, as many as it returns,
