@@ -1,7 +1,8 @@
 //! Reads the container of PDB files (MSF) and decodes binary annotations, with a proved library.
 //!
 //! [`open`], [`stream_count`], [`map`] and [`extract`] read a container; [`stream_length`] and [`extract_to_vec`] are
-//! for whole streams; [`number`], [`step`] and [`decode`] read annotations. Every function returns for any input.
+//! for whole streams; [`annotations`](annotations()) iterates over annotations, and [`number`], [`step`] and [`decode`]
+//! read them as numbers. Every function returns for any input.
 //!
 //! ```
 //! use trovespan::{ExtractError, Refusal, AT_MOST};
@@ -60,13 +61,17 @@
 #![warn(missing_docs)]
 
 mod annotations;
+mod binary_annotation;
 mod extraction;
 #[allow(unsafe_code)]
 mod ffi;
+mod iter;
 mod msf;
 mod refusal;
 
 pub use annotations::{decode, number, step, DecodeRefusal, Step, ENTRIES_EACH};
+pub use binary_annotation::{BinaryAnnotation, FileIndex};
 pub use extraction::{extract_to_vec, stream_length, ExtractError, AT_MOST};
+pub use iter::{annotations, Annotations, PlacedAnnotation, PlacedRefusal};
 pub use msf::{extract, map, open, stream_count, Mapped, Opened};
 pub use refusal::{Kind, Refusal};

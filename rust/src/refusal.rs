@@ -71,6 +71,11 @@ impl Refusal {
         }
     }
 
+    /// Refusal 9.
+    pub(crate) fn unknown_annotation(opcode: u32) -> Self {
+        Self { number: 9, value: opcode.into() }
+    }
+
     /// The proved library returns 0, or a refusal's number.
     pub(crate) fn judge(number: u32, value: u64) -> Result<(), Self> {
         match number {
