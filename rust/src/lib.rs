@@ -1,11 +1,14 @@
 //! Reads the container of PDB files (MSF) and decodes binary annotations, with a proved library.
 //!
-//! [`open`], [`stream_count`], [`map`] and [`extract`] read a container; [`stream_length`] and [`extract_to_vec`] are
-//! for whole streams; [`annotations`](annotations()) iterates over annotations, and [`number`], [`step`] and [`decode`]
-//! read them as numbers. Every function returns for any input.
+//! - [`Container`] and [`Stream`] read a container, and allocate no more than the caller allows.
+//! - [`annotations`](annotations()) iterates over annotations.
+//! - Below these, [`open`], [`stream_count`], [`map`] and [`extract`] read a container into stores that the caller
+//!   lends, and [`number`], [`step`] and [`decode`] read annotations as numbers.
+//!
+//! Every function returns for any input.
 //!
 //! ```
-//! use trovespan::{ExtractError, Refusal, AT_MOST};
+//! use trovespan::{Container, ExtractError, Refusal, AT_MOST};
 //!
 //! // Sixteen pages of 256 bytes. Page 1 has the location list, page 2 the directory: stream count, size, page.
 //! let mut file = vec![0; 4096];
@@ -15,17 +18,25 @@
 //! }
 //! file[768..773].copy_from_slice(b"hello");
 //!
-//! assert_eq!(trovespan::extract_to_vec(&file, 0, AT_MOST).unwrap(), b"hello");
-//! let too_long = trovespan::extract_to_vec(&file, 0, 4);
-//! assert_eq!(too_long, Err(ExtractError::TooLong { length: 5, at_most: 4 }));
-//! assert_eq!(trovespan::stream_length(&file, 0), Ok(5));
+//! let container = Container::open(&file)?;
+//! assert_eq!(container.stream_count()?, 1);
+//! assert_eq!(container.stream(0).length()?, 5);
+//! assert_eq!(container.stream(0).bytes(AT_MOST)?, b"hello");
+//! assert_eq!(container.stream(0).bytes(4), Err(ExtractError::TooLong { length: 5, at_most: 4 }));
+//!
+//! // The same by functions.
+//! assert_eq!(trovespan::extract_to_vec(&file, 0, AT_MOST)?, b"hello");
 //! assert_eq!(trovespan::stream_length(&file, 1), Err(Refusal { number: 5, value: 1 }));
+//! # Ok::<(), ExtractError>(())
 //! ```
 //!
 //! # Untrusted files
 //!
 //! A file may say anything. A file of 28 KB can name one page a million times, and then has a stream of 4 GB: compare a
-//! length with a limit before allocating. [`extract_to_vec`] does that, and is the only function that allocates.
+//! length with a limit before allocating. [`extract_to_vec`] and [`map_to_vec`] do that. No other function allocates.
+//!
+//! A file can also make a function slow: each call reads the file afresh, and the time grows with the directory, which
+//! may have 4 GB in a small file.
 //!
 //! # Lent bytes must not change during a call
 //!
@@ -62,16 +73,20 @@
 
 mod annotations;
 mod binary_annotation;
+mod container;
 mod extraction;
 #[allow(unsafe_code)]
 mod ffi;
 mod iter;
+mod mapping;
 mod msf;
 mod refusal;
 
 pub use annotations::{decode, number, step, DecodeRefusal, Step, ENTRIES_EACH};
 pub use binary_annotation::{BinaryAnnotation, FileIndex};
+pub use container::{Container, Stream};
 pub use extraction::{extract_to_vec, stream_length, ExtractError, AT_MOST};
 pub use iter::{annotations, Annotations, PlacedAnnotation, PlacedRefusal};
+pub use mapping::{map_to_vec, slice_count, MapError, SourceSlice, AT_MOST_SLICES};
 pub use msf::{extract, map, open, stream_count, Mapped, Opened};
 pub use refusal::{Kind, Refusal};

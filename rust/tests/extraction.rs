@@ -1,42 +1,12 @@
 //! Whole streams: lengths, bytes, and what is allocated for them.
 
+mod counting;
 mod files;
 
+use counting::counted;
 use files::*;
-use std::alloc::{GlobalAlloc, Layout, System};
-use std::cell::Cell;
 use std::error::Error;
 use trovespan::{extract_to_vec, stream_length, ExtractError, Refusal, AT_MOST};
-
-thread_local! {
-    /// How many bytes this thread has asked for.
-    static ASKED: Cell<usize> = const { Cell::new(0) };
-}
-
-/// The system's allocator, which counts what is asked for.
-struct Counting;
-
-// SAFETY: the system's allocator does all the work.
-unsafe impl GlobalAlloc for Counting {
-    unsafe fn alloc(&self, layout: Layout) -> *mut u8 {
-        ASKED.with(|asked| asked.set(asked.get() + layout.size()));
-        System.alloc(layout)
-    }
-
-    unsafe fn dealloc(&self, memory: *mut u8, layout: Layout) {
-        System.dealloc(memory, layout)
-    }
-}
-
-#[global_allocator]
-static COUNTING: Counting = Counting;
-
-/// What a call returns, and how many bytes it asks for.
-fn counted<T>(call: impl FnOnce() -> T) -> (T, usize) {
-    let before = ASKED.with(Cell::get);
-    let answer = call();
-    (answer, ASKED.with(Cell::get) - before)
-}
 
 fn refusal(number: u32, value: u64) -> Refusal {
     Refusal { number, value }
