@@ -53,6 +53,7 @@ pub fn number(bytes: &[u8], at: usize) -> (Result<u32, Refusal>, usize) {
 /// assert!(matches!(trovespan::step(&[6, 15], 0), (Step::Annotation { opcode: 6, first: -7, .. }, 2)));
 /// assert_eq!(trovespan::step(&[6, 15], 2), (Step::End, 2));
 /// ```
+#[must_use]
 pub fn step(bytes: &[u8], at: usize) -> (Step, usize) {
     let (number, value, first, second, next) = ffi::step(bytes, at);
     let step = match (Refusal::judge(number, value), value as u32) {

@@ -1,8 +1,11 @@
 //! A container, and a stream of it, as values with the functions as methods.
 
-use crate::{extract, extract_to_vec, map, map_to_vec, open, slice_count, stream_count, stream_length};
-use crate::{ExtractError, MapError, Mapped, Opened, Refusal, SourceSlice};
-use std::fmt::{self, Debug, Formatter};
+use crate::{extract, map, open, slice_count, stream_count, stream_length, Mapped, Opened, Refusal};
+#[cfg(feature = "alloc")]
+use crate::{extract_to_vec, map_to_vec, ExtractError, MapError, SourceSlice};
+#[cfg(feature = "alloc")]
+use alloc::vec::Vec;
+use core::fmt::{self, Debug, Formatter};
 
 /// A file that opens as a container.
 ///
@@ -110,25 +113,6 @@ impl<'a> Stream<'a> {
         slice_count(self.container.file, self.number)
     }
 
-    /// Returns the bytes of the stream if there are at most `at_most`. [`AT_MOST`](crate::AT_MOST) suits most callers.
-    ///
-    /// # Errors
-    ///
-    /// Fails as [`extract_to_vec`] does, before it allocates.
-    pub fn bytes(&self, at_most: usize) -> Result<Vec<u8>, ExtractError> {
-        extract_to_vec(self.container.file, self.number, at_most)
-    }
-
-    /// Returns the slices of the stream if there are at most `at_most`. [`AT_MOST_SLICES`](crate::AT_MOST_SLICES) suits
-    /// most callers.
-    ///
-    /// # Errors
-    ///
-    /// Fails as [`map_to_vec`] does, before it allocates.
-    pub fn slices(&self, at_most: usize) -> Result<Vec<SourceSlice>, MapError> {
-        map_to_vec(self.container.file, self.number, at_most)
-    }
-
     /// Copies the stream, or its first `limit` bytes, to the front of `out`, and returns the number of bytes copied.
     ///
     /// # Errors
@@ -146,6 +130,28 @@ impl<'a> Stream<'a> {
     /// Refuses as [`map`](map()) does.
     pub fn map(&self, limit: Option<usize>, offsets: &mut [u64], sizes: &mut [u64]) -> Result<Mapped, Refusal> {
         map(self.container.file, self.number, limit, offsets, sizes)
+    }
+}
+
+#[cfg(feature = "alloc")]
+impl Stream<'_> {
+    /// Returns the bytes of the stream if there are at most `at_most`. [`AT_MOST`](crate::AT_MOST) suits most callers.
+    ///
+    /// # Errors
+    ///
+    /// Fails as [`extract_to_vec`] does, before it allocates.
+    pub fn bytes(&self, at_most: usize) -> Result<Vec<u8>, ExtractError> {
+        extract_to_vec(self.container.file, self.number, at_most)
+    }
+
+    /// Returns the slices of the stream if there are at most `at_most`. [`AT_MOST_SLICES`](crate::AT_MOST_SLICES) suits
+    /// most callers.
+    ///
+    /// # Errors
+    ///
+    /// Fails as [`map_to_vec`] does, before it allocates.
+    pub fn slices(&self, at_most: usize) -> Result<Vec<SourceSlice>, MapError> {
+        map_to_vec(self.container.file, self.number, at_most)
     }
 }
 

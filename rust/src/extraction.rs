@@ -1,8 +1,8 @@
-//! Whole streams: their length, and their bytes in a new vector.
+//! The bytes of a whole stream in a new vector.
 
-use crate::{extract, Kind, Refusal};
-use std::error::Error;
-use std::fmt::{self, Display, Formatter};
+use crate::{extract, stream_length, Refusal};
+use alloc::{vec, vec::Vec};
+use core::fmt::{self, Display, Formatter};
 
 /// A limit for [`extract_to_vec`] that suits most callers: 256 MiB.
 ///
@@ -22,21 +22,6 @@ pub enum ExtractError {
     },
     /// The stream cannot be extracted.
     Refused(Refusal),
-}
-
-/// Returns the number of bytes that extraction of a whole stream needs. Allocates nothing.
-///
-/// A stream may be far longer than its file. Compare the length with a limit before allocating, as [`extract_to_vec`]
-/// does.
-///
-/// # Errors
-///
-/// Refuses as [`extract`] does, but never with 10. So all bytes of a stream that has a length are in the file.
-pub fn stream_length(file: &[u8], stream: u32) -> Result<usize, Refusal> {
-    match extract(file, stream, None, &mut []) {
-        Err(why) if why.kind() == Kind::NoRoom => Ok(why.value as usize),
-        answer => answer,
-    }
 }
 
 /// Returns the bytes of a whole stream if there are at most `at_most`. [`AT_MOST`] suits most callers.
@@ -76,16 +61,6 @@ impl Display for ExtractError {
                 write!(f, "the stream has {length} bytes, and at most {at_most} are allowed")
             }
             Self::Refused(why) => why.fmt(f),
-        }
-    }
-}
-
-impl Error for ExtractError {
-    /// The refusal, if there is one.
-    fn source(&self) -> Option<&(dyn Error + 'static)> {
-        match self {
-            Self::TooLong { .. } => None,
-            Self::Refused(why) => Some(why),
         }
     }
 }

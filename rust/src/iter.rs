@@ -1,9 +1,8 @@
 //! An iterator over annotations, thin over `step`.
 
 use crate::{step, BinaryAnnotation, Refusal, Step};
-use std::error::Error;
-use std::fmt::{self, Display, Formatter};
-use std::iter::FusedIterator;
+use core::fmt::{self, Display, Formatter};
+use core::iter::FusedIterator;
 
 /// An annotation and its place.
 #[derive(Clone, Copy, Debug, PartialEq, Eq, Hash)]
@@ -108,12 +107,5 @@ impl From<PlacedRefusal> for Refusal {
 impl Display for PlacedRefusal {
     fn fmt(&self, f: &mut Formatter<'_>) -> fmt::Result {
         write!(f, "{} (at place {})", self.refusal, self.at)
-    }
-}
-
-impl Error for PlacedRefusal {
-    /// The refusal without its place.
-    fn source(&self) -> Option<&(dyn Error + 'static)> {
-        Some(&self.refusal)
     }
 }

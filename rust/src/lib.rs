@@ -68,16 +68,36 @@
 //! | 11 | `OverLimit` | the limit | over a limit of the program `list`; no function here has one |
 //!
 //! If several conditions hold, the first one met in reading decides.
+//!
+//! # Features
+//!
+//! - `std`, which is on unless default features are off: the errors implement `std::error::Error`. Turns on `alloc`.
+//! - `alloc`: [`extract_to_vec`], [`map_to_vec`], and the methods of [`Stream`] that allocate.
+//!
+//! Without features the crate is `no_std` and allocates nothing.
+#![no_std]
 #![deny(unsafe_code)]
 #![warn(missing_docs)]
+// The library returns numbers of 64 bits. Each fits: it is a word of the file, or at most a length that was lent or is
+// needed, and the library is linked only where `usize` has 64 bits.
+#![allow(clippy::cast_possible_truncation)]
+
+#[cfg(feature = "alloc")]
+extern crate alloc;
+#[cfg(feature = "std")]
+extern crate std;
 
 mod annotations;
 mod binary_annotation;
 mod container;
+#[cfg(feature = "std")]
+mod error;
+#[cfg(feature = "alloc")]
 mod extraction;
 #[allow(unsafe_code)]
 mod ffi;
 mod iter;
+#[cfg(feature = "alloc")]
 mod mapping;
 mod msf;
 mod refusal;
@@ -85,8 +105,15 @@ mod refusal;
 pub use annotations::{decode, number, step, DecodeRefusal, Step, ENTRIES_EACH};
 pub use binary_annotation::{BinaryAnnotation, FileIndex};
 pub use container::{Container, Stream};
-pub use extraction::{extract_to_vec, stream_length, ExtractError, AT_MOST};
+#[cfg(feature = "alloc")]
+pub use extraction::{extract_to_vec, ExtractError, AT_MOST};
 pub use iter::{annotations, Annotations, PlacedAnnotation, PlacedRefusal};
-pub use mapping::{map_to_vec, slice_count, MapError, SourceSlice, AT_MOST_SLICES};
-pub use msf::{extract, map, open, stream_count, Mapped, Opened};
+#[cfg(feature = "alloc")]
+pub use mapping::{map_to_vec, MapError, SourceSlice, AT_MOST_SLICES};
+pub use msf::{extract, map, open, slice_count, stream_count, stream_length, Mapped, Opened};
 pub use refusal::{Kind, Refusal};
+
+/// The examples of the readme, as tests.
+#[cfg(all(doctest, feature = "std"))]
+#[doc = include_str!("../README.md")]
+struct Readme;

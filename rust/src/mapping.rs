@@ -1,8 +1,8 @@
-//! Whole mappings: how many slices a stream has, and its slices in a new vector.
+//! The slices of a whole stream in a new vector.
 
-use crate::{map, Kind, Refusal};
-use std::error::Error;
-use std::fmt::{self, Display, Formatter};
+use crate::{map, slice_count, Refusal};
+use alloc::{vec, vec::Vec};
+use core::fmt::{self, Display, Formatter};
 
 /// A limit for [`map_to_vec`] that suits most callers. It allows at most 256 MiB.
 pub const AT_MOST_SLICES: usize = 8_388_608;
@@ -42,19 +42,6 @@ pub enum MapError {
     Refused(Refusal),
 }
 
-/// Returns the number of slices of a whole stream. Allocates nothing.
-///
-/// # Errors
-///
-/// Refuses as [`map`] does, but never with 10.
-pub fn slice_count(file: &[u8], stream: u32) -> Result<usize, Refusal> {
-    match map(file, stream, None, &mut [], &mut []) {
-        Ok(mapped) => Ok(mapped.slices),
-        Err(why) if why.kind() == Kind::NoRoom => Ok(why.value as usize),
-        Err(why) => Err(why),
-    }
-}
-
 /// Returns the slices of a whole stream if there are at most `at_most`. [`AT_MOST_SLICES`] suits most callers. A slice
 /// may lie past the end of the file. While it works, this takes 32 bytes for each slice.
 ///
@@ -86,16 +73,6 @@ impl Display for MapError {
                 write!(f, "the stream has {slices} slices, and at most {at_most} are allowed")
             }
             Self::Refused(why) => why.fmt(f),
-        }
-    }
-}
-
-impl Error for MapError {
-    /// The refusal, if there is one.
-    fn source(&self) -> Option<&(dyn Error + 'static)> {
-        match self {
-            Self::TooMany { .. } => None,
-            Self::Refused(why) => Some(why),
         }
     }
 }

@@ -1,6 +1,6 @@
 //! The functions on a container. The caller lends the file, and a store for each answer of many entries.
 
-use crate::{ffi, Refusal};
+use crate::{ffi, Kind, Refusal};
 
 /// The header of a container.
 #[derive(Clone, Copy, Debug, PartialEq, Eq, Hash)]
@@ -73,4 +73,32 @@ pub fn extract(file: &[u8], stream: u32, limit: Option<usize>, out: &mut [u8]) -
     let (number, value) = ffi::extract(file, stream, limit, out);
     Refusal::judge(number, value)?;
     Ok(value as usize)
+}
+
+/// Returns the number of bytes that extraction of a whole stream needs. Allocates nothing.
+///
+/// A stream may be far longer than its file. Compare the length with a limit before allocating, as
+/// [`extract_to_vec`](crate::extract_to_vec) does.
+///
+/// # Errors
+///
+/// Refuses as [`extract`] does, but never with 10. So all bytes of a stream that has a length are in the file.
+pub fn stream_length(file: &[u8], stream: u32) -> Result<usize, Refusal> {
+    match extract(file, stream, None, &mut []) {
+        Err(why) if why.kind() == Kind::NoRoom => Ok(why.value as usize),
+        answer => answer,
+    }
+}
+
+/// Returns the number of slices of a whole stream. Allocates nothing.
+///
+/// # Errors
+///
+/// Refuses as [`map`] does, but never with 10.
+pub fn slice_count(file: &[u8], stream: u32) -> Result<usize, Refusal> {
+    match map(file, stream, None, &mut [], &mut []) {
+        Ok(mapped) => Ok(mapped.slices),
+        Err(why) if why.kind() == Kind::NoRoom => Ok(why.value as usize),
+        Err(why) => Err(why),
+    }
 }

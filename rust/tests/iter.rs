@@ -1,6 +1,5 @@
 //! Annotations by name, and the iterator over them.
 
-use std::error::Error;
 use trovespan::BinaryAnnotation::*;
 use trovespan::{annotations, step, BinaryAnnotation, FileIndex, Refusal, Step};
 
@@ -170,6 +169,14 @@ fn the_items_are_the_steps() {
 fn a_refusal_in_words() {
     let why = annotations(&[3, 5, 14]).nth(1).unwrap().unwrap_err();
     assert_eq!(why.to_string(), "refused 9: there is no annotation of opcode 14 (at place 2)");
-    assert_eq!(why.source().unwrap().to_string(), why.refusal.to_string());
     assert_eq!(Refusal::from(why), why.refusal);
+}
+
+#[test]
+#[cfg(feature = "std")]
+fn the_source_of_a_refusal() {
+    use std::error::Error;
+
+    let why = annotations(&[14]).next().unwrap().unwrap_err();
+    assert_eq!(why.source().unwrap().to_string(), why.refusal.to_string());
 }

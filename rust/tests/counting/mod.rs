@@ -19,7 +19,7 @@ unsafe impl GlobalAlloc for Counting {
     }
 
     unsafe fn dealloc(&self, memory: *mut u8, layout: Layout) {
-        System.dealloc(memory, layout)
+        System.dealloc(memory, layout);
     }
 }
 
