@@ -89,6 +89,8 @@ extern crate std;
 
 mod annotations;
 mod binary_annotation;
+#[cfg(doctest)]
+mod compile_fail;
 mod container;
 #[cfg(feature = "std")]
 mod error;
@@ -114,6 +116,6 @@ pub use msf::{extract, map, open, slice_count, stream_count, stream_length, Mapp
 pub use refusal::{Kind, Refusal};
 
 /// The examples of the readme, as tests.
-#[cfg(all(doctest, feature = "std"))]
+#[cfg(doctest)]
 #[doc = include_str!("../README.md")]
 struct Readme;

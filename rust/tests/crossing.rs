@@ -8,7 +8,9 @@
 mod fields;
 
 use fields::{map_counts, opened, stepped, Found};
-use trovespan::{decode, extract, number, stream_count, DecodeRefusal, Refusal};
+use trovespan::{
+    annotations, decode, extract, number, slice_count, stream_count, stream_length, DecodeRefusal, Refusal,
+};
 
 const VALUE: u64 = 0xfedc_ba98_7654_3210;
 const OTHER: u64 = 0xf0e1_d2c3_b4a5_9687;
@@ -122,6 +124,37 @@ fn extracting() {
         assert_eq!(extract(&[0], 0, Some(limit as usize), &mut []), Ok(limit as usize));
     }
     assert_eq!(extract(&[10], 0, None, &mut []), Err(refusal(10)));
+}
+
+#[test]
+fn lengths_and_slice_counts() {
+    for file in [[0], [10]] {
+        assert_eq!(stream_length(&file, 0), Ok(VALUE as usize));
+        assert_eq!(slice_count(&file, 0), Ok(VALUE as usize));
+    }
+    assert_eq!(stream_length(&[6], 0), Err(refusal(6)));
+    assert_eq!(slice_count(&[5], 0), Err(refusal(5)));
+}
+
+#[test]
+#[cfg(feature = "alloc")]
+fn what_is_too_long() {
+    use trovespan::{extract_to_vec, map_to_vec, ExtractError, MapError};
+
+    for at_most in [0, VALUE as u32 as usize, VALUE as usize - 1] {
+        let too_long = ExtractError::TooLong { length: VALUE as usize, at_most };
+        assert_eq!(extract_to_vec(&[10], 0, at_most), Err(too_long));
+        let too_many = MapError::TooMany { slices: VALUE as usize, at_most };
+        assert_eq!(map_to_vec(&[10], 0, at_most), Err(too_many));
+    }
+}
+
+/// The stand-in's opcode is none of the thirteen, and its step stays where it is.
+#[test]
+fn an_opcode_that_has_no_name() {
+    let why = annotations(&[0]).next().unwrap().unwrap_err();
+    assert_eq!(why.refusal, Refusal { number: 9, value: (VALUE as u32).into() });
+    assert_eq!((why.at, why.next), (0, 0));
 }
 
 #[test]
