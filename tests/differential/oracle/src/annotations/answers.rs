@@ -36,7 +36,7 @@ pub trait Library {
 
 pub enum Step {
     /// Opcode, first operand, second operand or 0; and whether it emits a line record, if the library
-    /// says so.
+    /// has a name for it.
     Annotation([i64; 3], Option<bool>),
     End,
     Refused(Refusal),

@@ -1,6 +1,5 @@
 //! Our answers about annotations beside pdb's.
 
-use super::answers::Part;
 use super::list::Question;
 use super::ours::Ours;
 use super::pdb::Pdb;
@@ -11,9 +10,7 @@ pub fn compare(questions: impl Iterator<Item = Question>, comparison: &mut Compa
     for (n, question) in questions.enumerate() {
         for bytes in question.strings() {
             let ours = question.answer::<Ours>(&bytes);
-            let mut theirs = question.answer::<Pdb>(&bytes);
-            // Our crate does not say whether a step emits.
-            theirs.retain(|(part, _)| *part != Part::Emits);
+            let theirs = question.answer::<Pdb>(&bytes);
             comparison.compare(n, ours, theirs, || {
                 format!("{}\n{}\n", asked(&question), hex(&bytes))
             });

@@ -38,7 +38,11 @@ fn by_the_rules(step: trovespan::Step) -> Step {
             first,
             second,
             ..
-        } => Step::Annotation([i64::from(opcode), first, second], None),
+        } => {
+            let named = trovespan::BinaryAnnotation::new(opcode, first, second);
+            let emits = named.map(trovespan::BinaryAnnotation::emits_line_info);
+            Step::Annotation([i64::from(opcode), first, second], emits)
+        }
         trovespan::Step::End => Step::End,
         trovespan::Step::Refused(why) => Step::Refused(refusal(why)),
     }
