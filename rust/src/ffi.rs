@@ -132,9 +132,9 @@ pub fn number(bytes: &[u8], at: usize) -> (u32, u64, u64) {
 
 pub fn step(bytes: &[u8], at: usize) -> (u32, u64, i64, i64, u64) {
     let (mut value, mut first, mut second, mut next) = (0, 0, 0, 0);
-    // SAFETY: `bytes` is borrowed for the call, with its own length; `value`, `first`, `second` and `next` are
-    // different local numbers.
     let number =
+        // SAFETY: `bytes` is borrowed for the call, with its own length; `value`, `first`, `second` and `next` are
+        // different local numbers.
         unsafe { c::trovespan_step(bytes.as_ptr(), bytes.len(), at, &mut value, &mut first, &mut second, &mut next) };
     (number, value, first, second, next)
 }
