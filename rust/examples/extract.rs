@@ -1,10 +1,13 @@
-//! extract FILE STREAM OUT: writes the bytes of a stream of a PDB file, of any size, to OUT.
+//! extract [--at-most N] FILE STREAM OUT: writes the bytes of a stream of a PDB file, of any size, to OUT.
+//!
+//! A stream of more than N bytes is not extracted, nor is memory allocated for it. N is 268435456 if it is not given. A
+//! small file can name one page many times, so the size of a stream has nothing to do with that of its file.
 //!
 //! On failure prints one line on standard error, and neither makes nor changes OUT.
 
 mod common;
 
-use common::{read, shown, stop, words, FAILED, MISUSED};
+use common::{arguments, misused, read, shown, stop, words, FAILED, MISUSED};
 use std::ffi::{OsStr, OsString};
 use std::fs::{self, OpenOptions, Permissions};
 use std::io::{self, ErrorKind, Write};
@@ -15,34 +18,61 @@ use trovespan::Refusal;
 /// The refusal whose value is the room needed.
 const NO_ROOM: u32 = 10;
 
+const USAGE: &str = "extract [--at-most N] FILE STREAM OUT";
+
+/// The most bytes that are extracted, if the caller does not say it.
+const AT_MOST: usize = 268_435_456;
+
 fn main() {
-    let [path, stream, out] = words("extract FILE STREAM OUT");
-    let stream = number(&stream);
+    let mut arguments = arguments();
+    let at_most = at_most(&mut arguments);
+    let [path, stream, out] = words(arguments, USAGE);
+    let stream = number("STREAM", &stream, u32::MAX.into()) as u32;
     let file = read("extract", &path);
-    let bytes = extract(&file, stream)
+    let bytes = extract(&file, stream, at_most)
         .unwrap_or_else(|why| stop(FAILED, format!("extract: {}: stream {stream}: {why}", shown(&path))));
     if let Err(e) = write(Path::new(&out), &bytes) {
         stop(FAILED, format!("extract: {}: {e}", shown(&out)));
     }
 }
 
-/// Parses a stream number: decimal digits alone, in range.
-fn number(word: &OsStr) -> u32 {
-    let digits = word.to_str().filter(|word| word.bytes().all(|b| b.is_ascii_digit()));
-    digits.and_then(|digits| digits.parse().ok()).unwrap_or_else(|| {
-        stop(MISUSED, format!("extract: {}: STREAM is a number from 0 to {}", shown(word), u32::MAX))
-    })
+/// Takes `--at-most N` from the front of the arguments, if it is there.
+fn at_most(arguments: &mut Vec<OsString>) -> usize {
+    if arguments.first().map_or(true, |word| word != "--at-most") {
+        return AT_MOST;
+    }
+    match arguments.drain(..arguments.len().min(2)).nth(1) {
+        Some(word) => number("N", &word, usize::MAX as u64) as usize,
+        None => misused(USAGE),
+    }
 }
 
-/// The bytes of a whole stream.
-fn extract(file: &[u8], stream: u32) -> Result<Vec<u8>, Refusal> {
-    let room = match trovespan::extract(file, stream, None, &mut []) {
-        Err(Refusal { number: NO_ROOM, value }) => value as usize,
-        answer => answer?,
-    };
-    let mut bytes = vec![0; room];
-    trovespan::extract(file, stream, None, &mut bytes)?;
+/// Parses a number: decimal digits alone, in range.
+fn number(name: &str, word: &OsStr, largest: u64) -> u64 {
+    let digits = word.to_str().filter(|word| word.bytes().all(|b| b.is_ascii_digit()));
+    let number = digits.and_then(|digits| digits.parse().ok()).filter(|&number| number <= largest);
+    number.unwrap_or_else(|| stop(MISUSED, format!("extract: {}: {name} is a number from 0 to {largest}", shown(word))))
+}
+
+/// The bytes of a whole stream, or why there are none. Allocates nothing before both are known to be possible.
+fn extract(file: &[u8], stream: u32, at_most: usize) -> Result<Vec<u8>, String> {
+    let length = stream_length(file, stream).map_err(|why| why.to_string())?;
+    if length > at_most {
+        return Err(format!("it has {length} bytes, more than {at_most} (--at-most N allows N bytes)"));
+    }
+    let mut bytes = Vec::new();
+    bytes.try_reserve_exact(length).map_err(|_| format!("there is no memory for its {length} bytes"))?;
+    bytes.resize(length, 0);
+    trovespan::extract(file, stream, None, &mut bytes).map_err(|why| why.to_string())?;
     Ok(bytes)
+}
+
+/// The number of bytes in a stream. An empty store has no room for them, unless there are none.
+fn stream_length(file: &[u8], stream: u32) -> Result<usize, Refusal> {
+    match trovespan::extract(file, stream, None, &mut []) {
+        Err(Refusal { number: NO_ROOM, value }) => Ok(value as usize),
+        answer => answer,
+    }
 }
 
 /// Writes to OUT. If OUT is not a regular file but, for example, a pipe, it is written in place, not replaced.

@@ -1,45 +1,57 @@
 //! list FILE: lists the streams of a PDB file of any size.
 //!
-//! The output is that of the proved program `list`, without its limits: `streams N`, then for each stream its number,
-//! size and number of slices, or `K refused C V` if it cannot be mapped. For a file that cannot be listed it is the one
-//! line `refused C V`, with a line on standard error and status 1.
+//! The output is that of the proved program `list`: `streams N`, then for each stream its number, size and number of
+//! slices, or `K refused C V` if it cannot be mapped. For a file that cannot be listed it is the one line `refused C V`,
+//! with a line on standard error and status 1. The limits of the proved program are not those of this one, which lists
+//! files of any size and up to 65,535 streams.
+//!
+//! A hostile file can take minutes. Then the progress is on standard error.
 
 mod common;
 
-use common::{read, shown, stop, words, FAILED};
+use common::{arguments, read, shown, stop, words, FAILED};
+use std::fs::File;
 use std::io::{self, BufWriter, Write};
+use std::os::unix::io::AsFd;
+use std::time::{Duration, Instant};
 use trovespan::{Mapped, Refusal};
 
 // Refusals that are treated in a special way here.
 const STREAM_NOT_FOUND: u32 = 5;
 const SHORT_DATA: u32 = 7;
 const NO_ROOM: u32 = 10;
+const OVER_LIMIT: u32 = 11;
+
+/// The most streams that are listed. PDB files number their streams with 16 bits, and 65,535 means none.
+const STREAM_LIMIT: u32 = 65_535;
+
+/// The time from one line of progress to the next.
+const PROGRESS_EVERY: Duration = Duration::from_secs(10);
 
 /// Where the directory's size is in the header.
 const DIRECTORY_SIZE: usize = 44;
 
 fn main() {
-    let [path] = words("list FILE");
+    let [path] = words(arguments(), "list FILE");
     let file = read("list", &path);
-    let mut out = BufWriter::new(io::stdout().lock());
     let streams = listable(&file);
-    let wrote = match streams {
-        Ok(streams) => write_lines(&file, streams, &mut out),
-        Err(why) => writeln!(out, "{}", refused(why)),
-    };
-    if let Err(e) = wrote.and_then(|()| out.flush()) {
+    if let Err(e) = write(&file, streams) {
         stop(FAILED, format!("list: standard output: {e}"));
     }
     if let Err(why) = streams {
-        stop(FAILED, format!("list: {}: {why}", shown(&path)));
+        stop(FAILED, format!("list: {}: {}", shown(&path), in_words(why)));
     }
 }
 
-/// Returns the number of streams, if the directory holds all their sizes. So a made-up count is not believed.
+/// Returns the number of streams, if the directory holds all their sizes and they are not too many. So a made-up count
+/// is not believed.
 fn listable(file: &[u8]) -> Result<u32, Refusal> {
     let streams = trovespan::stream_count(file)?;
     if 4 + 4 * u64::from(streams) > u64::from(directory_size(file)) {
         return Err(Refusal { number: SHORT_DATA, value: 0 });
+    }
+    if streams > STREAM_LIMIT {
+        return Err(Refusal { number: OVER_LIMIT, value: STREAM_LIMIT.into() });
     }
     Ok(streams)
 }
@@ -50,12 +62,24 @@ fn directory_size(file: &[u8]) -> u32 {
     u32::from_le_bytes([word[0], word[1], word[2], word[3]])
 }
 
+fn write(file: &[u8], streams: Result<u32, Refusal>) -> io::Result<()> {
+    // Rust's own standard output ignores that it cannot be written if it is not open for writing.
+    let mut out = BufWriter::new(File::from(io::stdout().as_fd().try_clone_to_owned()?));
+    match streams {
+        Ok(streams) => write_lines(file, streams, &mut out)?,
+        Err(why) => writeln!(out, "{}", refused(why))?,
+    }
+    out.flush()
+}
+
 /// Each mapping opens the file and walks its directory, so the time is that of the directory for each stream, or twice
 /// that. The proved program opens the file once.
 fn write_lines(file: &[u8], streams: u32, out: &mut impl Write) -> io::Result<()> {
     let mut stores = Stores::default();
+    let mut progress = Progress::begin();
     writeln!(out, "streams {streams}")?;
     for stream in 0..streams {
+        progress.show(stream, streams);
         match stores.map(file, stream) {
             Ok(mapped) => writeln!(out, "{stream} {} {}", mapped.length, mapped.slices)?,
             // The number is below the count, so the stream is absent.
@@ -70,7 +94,37 @@ fn refused(why: Refusal) -> String {
     format!("refused {} {}", why.number, why.value)
 }
 
-/// Stores for a stream's slices, kept from stream to stream, so that few streams are mapped twice.
+/// The words of a refusal. The library has no limits, so it has no words for this one.
+fn in_words(why: Refusal) -> String {
+    match why.number {
+        OVER_LIMIT => format!("refused {OVER_LIMIT}: over {} streams, the limit of this program", why.value),
+        _ => why.to_string(),
+    }
+}
+
+/// Lines on standard error that say how far a listing is, if it takes long.
+struct Progress {
+    began: Instant,
+    next: Duration,
+}
+
+impl Progress {
+    fn begin() -> Self {
+        Progress { began: Instant::now(), next: PROGRESS_EVERY }
+    }
+
+    fn show(&mut self, done: u32, all: u32) {
+        let passed = self.began.elapsed();
+        if passed >= self.next {
+            // The listing does not depend on it.
+            let _ = writeln!(io::stderr(), "list: {done} of {all} streams, {} s", passed.as_secs());
+            self.next = passed + PROGRESS_EVERY;
+        }
+    }
+}
+
+/// Stores for a stream's slices, kept from stream to stream, so that few streams are mapped twice. No stream has over
+/// 2^24 slices, which take 256 MiB.
 #[derive(Default)]
 struct Stores {
     offsets: Vec<u64>,

@@ -10,10 +10,18 @@ pub const MISUSED: i32 = 2;
 /// The status after a failure.
 pub const FAILED: i32 = 1;
 
-/// The arguments after the program's name, which must be COUNT.
-pub fn words<const COUNT: usize>(usage: &str) -> [OsString; COUNT] {
-    let words: Vec<OsString> = env::args_os().skip(1).collect();
-    words.try_into().unwrap_or_else(|_| stop(MISUSED, format!("usage: {usage}")))
+/// The arguments after the program's name.
+pub fn arguments() -> Vec<OsString> {
+    env::args_os().skip(1).collect()
+}
+
+/// The arguments, which must be COUNT.
+pub fn words<const COUNT: usize>(arguments: Vec<OsString>, usage: &str) -> [OsString; COUNT] {
+    arguments.try_into().unwrap_or_else(|_| misused(usage))
+}
+
+pub fn misused(usage: &str) -> ! {
+    stop(MISUSED, format!("usage: {usage}"))
 }
 
 /// The whole file.
