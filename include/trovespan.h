@@ -1,0 +1,118 @@
+/*
+ * trovespan.h: the container of PDB files (MSF) and binary annotations, read by a proved library.
+ *
+ * Link with libtrovespan.a, which `rt staticlib trovespan` makes in target/staticlib. It is code for x86-64 Linux. It needs
+ * no other library, allocates nothing, and keeps no pointer and no state, so any number of threads may call it.
+ *
+ * Each function returns 0, or the number of a refusal, for any input. Its other results go to the numbers that it is lent,
+ * all of which it sets. On a refusal `value` is the refusal's value, and a number that has nothing to say is 0.
+ *
+ * A store is lent for an answer of many entries. A success writes the first entries and leaves the others. A refusal writes
+ * none. If a store is too small, the refusal is TROVESPAN_NO_ROOM and `value` is the number of entries needed, so a store of
+ * length 0 asks for the size. A small file can name one page many times, so a stream may have up to 4,294,967,294 bytes
+ * whatever the size of its file: compare the size with a limit of your own before you allocate.
+ *
+ * The caller guarantees, for the whole call:
+ *
+ * - Memory for as many entries as a length says is there. An input can be read; a store, and a number of the answer, can be
+ *   read and written. With length 0 nothing is read or written, and the pointer may be null.
+ * - Stores and numbers are aligned for their type.
+ * - A store or number overlaps no other store or number, nor the input.
+ * - Lent bytes do not change during the call, except by the call itself. The functions judge the input first and then write
+ *   without checking again, so if the input changes in between, they may write past a store. A shared mapping of a file that
+ *   another process writes breaks this: read the file, or map a private copy.
+ * - A `bool` is true or false, as the C compiler makes it.
+ *
+ * tests/crate/c checks these declarations against the library.
+ */
+#ifndef TROVESPAN_H
+#define TROVESPAN_H
+
+#include <stdbool.h>
+#include <stddef.h>
+#include <stdint.h>
+
+#ifdef __cplusplus
+extern "C" {
+#endif
+
+/* Why a function refuses. If several conditions hold, the first one met in reading decides. */
+enum {
+    /* Value 0. The file has fewer than 4,096 bytes, or does not begin with the magic of a PDB file. */
+    TROVESPAN_UNRECOGNIZED_FILE_FORMAT = 1,
+    /* Value 0. The file begins with the magic of the small format. */
+    TROVESPAN_UNIMPLEMENTED_FEATURE = 2,
+    /* The size. The page size is not a power of two from 0x100 to 0x800000. */
+    TROVESPAN_INVALID_PAGE_SIZE = 3,
+    /* The page. A page number is 0 or above the number of pages used. */
+    TROVESPAN_PAGE_REFERENCE_OUT_OF_RANGE = 4,
+    /* The stream. The stream number is not below the stream count, or the stream is absent. */
+    TROVESPAN_STREAM_NOT_FOUND = 5,
+    /* Value 0. The file ends too early. */
+    TROVESPAN_FILE_ENDS = 6,
+    /* Value 0. The header block, the directory or the annotation bytes end too early. */
+    TROVESPAN_SHORT_DATA = 7,
+    /* Value 0. A compressed number of four bytes begins with 0xe0 or more. */
+    TROVESPAN_INVALID_COMPRESSED_ANNOTATION = 8,
+    /* The opcode. An annotation's opcode is above 13. */
+    TROVESPAN_UNKNOWN_BINARY_ANNOTATION = 9,
+    /* The entries needed. The answer is complete, but the store is too small for it. */
+    TROVESPAN_NO_ROOM = 10
+};
+
+/* Opens a container. `value` is the page size, `used` the number of pages used. Refuses with 1, 2, 3, 4 or 7. */
+uint32_t trovespan_open(const uint8_t *file, size_t file_len, uint64_t *value, uint64_t *used);
+
+/* Counts the streams of a container, absent ones included: `value`. Refuses as trovespan_open does, and with 6. */
+uint32_t trovespan_stream_count(const uint8_t *file, size_t file_len, uint64_t *value);
+
+/*
+ * Maps a stream to slices of the file: only its first `limit` bytes if `limited`, else the whole stream, whatever `limit`
+ * is. Writes where each slice begins to `offsets`, and its length to `sizes`. The slices, in order, are the stream. `value`
+ * is the number of slices, `total` the number of bytes in all of them.
+ *
+ * Refuses as trovespan_stream_count does, with 5, and with 10 if the shorter store has fewer entries than there are slices.
+ * All page numbers of the stream are checked, whatever the limit. A slice may lie past the end of the file.
+ */
+uint32_t trovespan_map(const uint8_t *file, size_t file_len, uint32_t stream, bool limited, size_t limit, uint64_t *offsets,
+                       size_t offsets_len, uint64_t *sizes, size_t sizes_len, uint64_t *value, uint64_t *total);
+
+/*
+ * Copies a stream, or its first `limit` bytes if `limited`, to the front of `out`. `value` is the number of bytes copied.
+ *
+ * Refuses as trovespan_map does, with 6 also if a slice reaches past the end of the file, and with 10 if `out` is too short.
+ */
+uint32_t trovespan_extract(const uint8_t *file, size_t file_len, uint32_t stream, bool limited, size_t limit, uint8_t *out,
+                           size_t out_len, uint64_t *value);
+
+/*
+ * Reads the compressed number at the place `at`. `value` is the number, `next` the place after it or after what is refused.
+ * Refuses with 7, and then `next` is `bytes_len`, or with 8.
+ */
+uint32_t trovespan_number(const uint8_t *bytes, size_t bytes_len, size_t at, uint64_t *value, uint64_t *next);
+
+/*
+ * Takes one step over binary annotations, from the place `at`. `value` is the opcode, 1 to 13, or 0 at the end. `first` and
+ * `second` are the operands, 0 if there is none. `next` is the place where the next step goes on. After the end, and after 7,
+ * that is `bytes_len`.
+ *
+ * Refuses with 7, 8 or 9.
+ */
+uint32_t trovespan_step(const uint8_t *bytes, size_t bytes_len, size_t at, uint64_t *value, int64_t *first, int64_t *second,
+                        uint64_t *next);
+
+/*
+ * Decodes all annotations to the front of `store`, three entries each: opcode, first operand, second operand or 0. `value` is
+ * the number of annotations.
+ *
+ * Refuses with the first refusal of a step, and then `place` is the place after it; if there is none, with 10 if the store
+ * has fewer than three entries for each annotation. Otherwise `place` is 0.
+ */
+uint32_t trovespan_decode(const uint8_t *bytes, size_t bytes_len, int64_t *store, size_t store_len, uint64_t *value,
+                          uint64_t *place);
+
+#ifdef __cplusplus
+}
+#endif
+
+#endif

@@ -1,0 +1,142 @@
+/* Calls each function of include/trovespan.h: an answer, refusals, and what the stores hold afterwards. */
+#include <stdio.h>
+#include <string.h>
+
+#include "trovespan.h"
+
+static int checks;
+static int failed;
+
+#define CHECK(condition) check(condition, #condition, __LINE__)
+
+static void check(bool holds, const char *condition, int line) {
+    checks++;
+    if (!holds) {
+        failed++;
+        fprintf(stderr, "line %d: does not hold: %s\n", line, condition);
+    }
+}
+
+/* Document 01's file F. */
+static uint8_t file[6144];
+
+/* What the stores and numbers hold before a call. */
+#define UNTOUCHED 0x55
+
+static void put(size_t at, const uint32_t *words, size_t count) {
+    for (size_t i = 0; i < 4 * count; i++)
+        file[at + i] = (uint8_t)(words[i / 4] >> 8 * (i % 4));
+}
+
+static void make_f(void) {
+    static const uint8_t magic[32] = "Microsoft C/C++ MSF 7.00\r\n\x1a\x44\x53\0\0";
+    static const uint32_t header[] = {256, 1, 24, 36, 0, 3};
+    static const uint32_t location[] = {4};
+    static const uint32_t directory[] = {3, 300, 0xffffffff, 600, 20, 21, 10, 11, 5};
+    for (size_t i = 0; i < sizeof file; i++)
+        file[i] = (uint8_t)(i / 256 + i);
+    memcpy(file, magic, sizeof magic);
+    put(32, header, 6);
+    put(768, location, 1);
+    put(1024, directory, 9);
+}
+
+static bool untouched(const void *from, size_t count) {
+    const uint8_t *bytes = from;
+    for (size_t i = 0; i < count; i++)
+        if (bytes[i] != UNTOUCHED)
+            return false;
+    return true;
+}
+
+static void open_and_count(void) {
+    uint64_t value = 77, used = 77;
+    CHECK(trovespan_open(file, sizeof file, &value, &used) == 0 && value == 256 && used == 24);
+    CHECK(trovespan_open(file, 4095, &value, &used) == TROVESPAN_UNRECOGNIZED_FILE_FORMAT && value == 0 && used == 0);
+    CHECK(trovespan_stream_count(file, sizeof file, &value) == 0 && value == 3);
+    CHECK(trovespan_stream_count(NULL, 0, &value) == TROVESPAN_UNRECOGNIZED_FILE_FORMAT && value == 0);
+    file[34] = 1; /* the page size is 256 + 65,536 */
+    CHECK(trovespan_open(file, sizeof file, &value, &used) == TROVESPAN_INVALID_PAGE_SIZE && value == 65792 && used == 0);
+    make_f();
+    file[52] = 25; /* a page of the location list */
+    CHECK(trovespan_open(file, sizeof file, &value, &used) == TROVESPAN_PAGE_REFERENCE_OUT_OF_RANGE && value == 25);
+    memcpy(file, "Microsoft C/C++ program database 2.00\r\n\x1a\x4a\x47", 42);
+    CHECK(trovespan_open(file, sizeof file, &value, &used) == TROVESPAN_UNIMPLEMENTED_FEATURE && value == 0 && used == 0);
+    make_f();
+}
+
+static void map(void) {
+    uint64_t offsets[3], sizes[3], value = 77, total = 77;
+    memset(offsets, UNTOUCHED, sizeof offsets);
+    memset(sizes, UNTOUCHED, sizeof sizes);
+    CHECK(trovespan_map(file, sizeof file, 2, false, 0, offsets, 3, sizes, 1, &value, &total) == TROVESPAN_NO_ROOM);
+    CHECK(value == 2 && total == 0);
+    CHECK(trovespan_map(file, sizeof file, 1, false, 0, offsets, 3, sizes, 3, &value, &total) == TROVESPAN_STREAM_NOT_FOUND);
+    CHECK(value == 1 && total == 0);
+    CHECK(untouched(offsets, sizeof offsets) && untouched(sizes, sizeof sizes));
+    CHECK(trovespan_map(file, sizeof file, 2, false, 0, offsets, 3, sizes, 2, &value, &total) == 0);
+    CHECK(value == 2 && total == 600);
+    CHECK(offsets[0] == 2560 && sizes[0] == 512 && offsets[1] == 1280 && sizes[1] == 88);
+    CHECK(untouched(offsets + 2, 8) && untouched(sizes + 2, 8));
+    CHECK(trovespan_map(file, sizeof file, 2, true, 513, offsets, 3, sizes, 3, &value, &total) == 0);
+    CHECK(value == 2 && total == 513 && sizes[1] == 1);
+}
+
+static void extract(void) {
+    uint8_t out[601];
+    uint64_t value = 77;
+    memset(out, UNTOUCHED, sizeof out);
+    CHECK(trovespan_extract(file, sizeof file, 2, false, 0, NULL, 0, &value) == TROVESPAN_NO_ROOM && value == 600);
+    CHECK(trovespan_extract(file, sizeof file, 2, false, 0, out, 599, &value) == TROVESPAN_NO_ROOM && value == 600);
+    CHECK(trovespan_extract(file, sizeof file, 0, false, 0, out, 601, &value) == 0 && value == 300);
+    CHECK(memcmp(out, file + 5120, 300) == 0 && untouched(out + 300, 301));
+    CHECK(trovespan_extract(file, sizeof file, 2, true, 3, out, 601, &value) == 0 && value == 3);
+    CHECK(memcmp(out, file + 2560, 3) == 0 && memcmp(out + 3, file + 5123, 297) == 0 && untouched(out + 300, 301));
+    CHECK(trovespan_extract(file, sizeof file, 2, false, 3, out, 601, &value) == 0 && value == 600);
+    CHECK(memcmp(out, file + 2560, 512) == 0 && memcmp(out + 512, file + 1280, 88) == 0 && untouched(out + 600, 1));
+    CHECK(trovespan_extract(file, 5400, 0, false, 0, out, 601, &value) == TROVESPAN_FILE_ENDS && value == 0);
+}
+
+static void annotations(void) {
+    static const uint8_t bytes[] = {3, 5, 11, 0x72, 6, 15, 12, 0x81, 2, 0xc0, 1, 0, 0};
+    static const uint8_t wrong[] = {3, 5, 14, 0xe0, 0, 0, 0};
+    uint64_t value = 77, next = 77;
+    int64_t first = 77, second = 77;
+    CHECK(trovespan_number(bytes, sizeof bytes, 7, &value, &next) == 0 && value == 0x102 && next == 9);
+    CHECK(trovespan_number(bytes, 8, 7, &value, &next) == TROVESPAN_SHORT_DATA && value == 0 && next == 8);
+    CHECK(trovespan_number(wrong, sizeof wrong, 3, &value, &next) == TROVESPAN_INVALID_COMPRESSED_ANNOTATION && next == 7);
+    CHECK(trovespan_step(bytes, sizeof bytes, 2, &value, &first, &second, &next) == 0);
+    CHECK(value == 11 && first == 2 && second == -3 && next == 4);
+    CHECK(trovespan_step(bytes, sizeof bytes, 6, &value, &first, &second, &next) == 0);
+    CHECK(value == 12 && first == 0x102 && second == 0x10000 && next == 13);
+    CHECK(trovespan_step(bytes, sizeof bytes, SIZE_MAX, &value, &first, &second, &next) == 0);
+    CHECK(value == 0 && first == 0 && second == 0 && next == 13);
+    CHECK(trovespan_step(wrong, sizeof wrong, 2, &value, &first, &second, &next) == TROVESPAN_UNKNOWN_BINARY_ANNOTATION);
+    CHECK(value == 14 && first == 0 && second == 0 && next == 3);
+}
+
+static void decode(void) {
+    static const uint8_t bytes[] = {3, 5, 11, 0x72};
+    static const uint8_t wrong[] = {3, 5, 14};
+    static const int64_t wanted[] = {3, 5, 0, 11, 2, -3};
+    int64_t store[7];
+    uint64_t value = 77, place = 77;
+    memset(store, UNTOUCHED, sizeof store);
+    CHECK(trovespan_decode(wrong, sizeof wrong, store, 7, &value, &place) == TROVESPAN_UNKNOWN_BINARY_ANNOTATION);
+    CHECK(value == 14 && place == 3);
+    CHECK(trovespan_decode(bytes, sizeof bytes, store, 5, &value, &place) == TROVESPAN_NO_ROOM && value == 6 && place == 0);
+    CHECK(untouched(store, sizeof store));
+    CHECK(trovespan_decode(bytes, sizeof bytes, store, 7, &value, &place) == 0 && value == 2 && place == 0);
+    CHECK(memcmp(store, wanted, sizeof wanted) == 0 && untouched(store + 6, 8));
+}
+
+int main(void) {
+    make_f();
+    open_and_count();
+    map();
+    extract();
+    annotations();
+    decode();
+    printf("%d\n", checks);
+    return failed > 0;
+}
