@@ -19,8 +19,8 @@
  * - Stores and numbers are aligned for their type.
  * - A store or number overlaps no other store or number, nor the input.
  * - Lent bytes do not change during the call, except by the call itself. The functions judge the input first and then write
- *   without checking again, so if the input changes in between, they may write past a store. A shared mapping of a file that
- *   another process writes breaks this: read the file, or map a private copy.
+ *   without checking again, so if the input changes in between, they may write past a store. A mapping of a file that another
+ *   process writes breaks this, even with MAP_PRIVATE: read the file, or map a private copy, which nobody else writes.
  * - A `bool` is true or false, as the C compiler makes it.
  *
  * tests/crate/c checks these declarations against the library.
@@ -93,8 +93,8 @@ uint32_t trovespan_number(const uint8_t *bytes, size_t bytes_len, size_t at, uin
 
 /*
  * Takes one step over binary annotations, from the place `at`. `value` is the opcode, 1 to 13, or 0 at the end. `first` and
- * `second` are the operands, 0 if there is none. `next` is the place where the next step goes on. After the end, and after 7,
- * that is `bytes_len`.
+ * `second` are the operands, 0 if there is none. `next` is the place where the next step goes on. After the end, and after
+ * 7, that is `bytes_len`.
  *
  * Refuses with 7, 8 or 9.
  */
@@ -102,8 +102,8 @@ uint32_t trovespan_step(const uint8_t *bytes, size_t bytes_len, size_t at, uint6
                         uint64_t *next);
 
 /*
- * Decodes all annotations to the front of `store`, three entries each: opcode, first operand, second operand or 0. `value` is
- * the number of annotations.
+ * Decodes all annotations to the front of `store`, three entries each: opcode, first operand, second operand or 0. `value`
+ * is the number of annotations.
  *
  * Refuses with the first refusal of a step, and then `place` is the place after it; if there is none, with 10 if the store
  * has fewer than three entries for each annotation. Otherwise `place` is 0.
