@@ -2,8 +2,9 @@
 //! This is built into the oracle of `tests/differential`, which has pdb's code; `bench/run` builds and
 //! runs it.
 //!
-//! Both have the file in memory. Ours answers into lent stores, which are cleared before each run. pdb's
-//! time includes allocating and dropping its answer.
+//! Time is the processor time of the thread. Both have the file in memory. Ours answers into lent stores,
+//! which are cleared before each run, except where a case says otherwise. pdb's time includes allocating
+//! and dropping its answer.
 
 mod cases;
 mod inputs;
@@ -14,8 +15,9 @@ use std::io::{self, Write};
 use cases::{cases, Case};
 use timing::{measure, Runs, Stores, REFUSED, RUNS};
 
-const HEAD: &str = "# X and Y are the time of a call, or million bytes of the stream or of the \
-                    annotations per second; R is how many times as fast ours is";
+const HEAD: &str =
+    "# X and Y are the processor time of a call, or million bytes of the stream or of \
+                    the annotations per second of it; R is how many times as fast ours is";
 
 pub fn run(out: &mut impl Write) -> io::Result<()> {
     let mut stores = Stores::new();

@@ -39,6 +39,8 @@ pub fn cases(halves: usize) -> Vec<Case> {
             1000 * halves as u32,
         ),
         extraction(long, length),
+        fresh_extraction(long, length),
+        all_streams(of_streams(2000 * halves), 2000 * halves as u32),
         steps(annotations),
         decoding(annotations),
     ]
@@ -95,9 +97,55 @@ fn extraction(file: &'static [u8], length: usize) -> Case {
             let extracted = trovespan::extract(file, 0, None, &mut stores.bytes);
             extracted.map_or(REFUSED, |length| figure(&stores.bytes[..length]))
         }),
+        theirs: Box::new(move |_| read_by_pdb(file)),
+    }
+}
+
+/// The same, but ours is asked as by a caller that has no store: for the room, then for the bytes, into a
+/// new vector.
+fn fresh_extraction(file: &'static [u8], length: usize) -> Case {
+    Case {
+        name: "extract-fresh",
+        bytes: Some(length),
+        ours: Box::new(move |_| fresh(file).map_or(REFUSED, |stream| figure(&stream))),
+        theirs: Box::new(move |_| read_by_pdb(file)),
+    }
+}
+
+fn fresh(file: &[u8]) -> Result<Vec<u8>, trovespan::Refusal> {
+    const TOO_SMALL: u32 = 10;
+    let room = match trovespan::extract(file, 0, None, &mut []) {
+        Err(why) if why.number == TOO_SMALL => why.value as usize,
+        answer => answer?,
+    };
+    let mut stream = vec![0; room];
+    trovespan::extract(file, 0, None, &mut stream)?;
+    Ok(stream)
+}
+
+fn read_by_pdb(file: &'static [u8]) -> u64 {
+    let got = open_msf(Cursor::new(file)).and_then(|mut msf| msf.get(0, None));
+    got.map_or(REFUSED, |stream| figure(&stream))
+}
+
+/// The bytes of all streams, one after the other. Each call of ours opens the file afresh. pdb opens it
+/// once and keeps a copy of the directory. Both go through the sizes of all earlier streams for each.
+fn all_streams(file: &'static [u8], count: u32) -> Case {
+    Case {
+        name: "all-streams",
+        bytes: None,
+        ours: Box::new(move |stores| {
+            let extracted = |stream| {
+                let extracted = trovespan::extract(file, stream, None, &mut stores.bytes);
+                extracted.map_or(REFUSED, |length| figure(&stores.bytes[..length]))
+            };
+            (0..count).map(extracted).sum()
+        }),
         theirs: Box::new(move |_| {
-            let got = open_msf(Cursor::new(file)).and_then(|mut msf| msf.get(0, None));
-            got.map_or(REFUSED, |stream| figure(&stream))
+            open_msf(Cursor::new(file)).map_or(REFUSED, |mut msf| {
+                let read = |stream| msf.get(stream, None).map_or(REFUSED, |got| figure(&got));
+                (0..count).map(read).sum()
+            })
         }),
     }
 }
@@ -140,6 +188,7 @@ fn entries(step: Step) -> Option<[i64; 3]> {
             opcode,
             first,
             second,
+            ..
         } => Some([i64::from(opcode), first, second]),
         _ => None,
     }

@@ -1,6 +1,4 @@
-//! Measures how long calls take.
-
-use std::time::Instant;
+//! Measures how much processor time calls take. On a shared machine the time on the wall would be noise.
 
 use trovespan::ENTRIES_EACH;
 
@@ -11,7 +9,7 @@ pub const RUNS: usize = 9;
 /// The figure of a refused call.
 pub const REFUSED: u64 = 0;
 
-/// A run has enough calls to take at least this long.
+/// A run has enough calls to take at least this much of the thread's time.
 const SECONDS_A_RUN: f64 = 0.05;
 
 /// The stores that are lent for the answers.
@@ -83,13 +81,40 @@ fn count(call: &Call, stores: &mut Stores) -> u32 {
     count
 }
 
-/// The seconds of `count` calls, into cleared stores.
+/// The seconds of the thread's time that `count` calls take, into cleared stores.
 #[inline(never)]
 fn run(call: &Call, count: u32, stores: &mut Stores) -> f64 {
     stores.clear();
-    let began = Instant::now();
+    let began = thread_seconds();
     for _ in 0..count {
         call(stores);
     }
-    began.elapsed().as_secs_f64()
+    thread_seconds() - began
+}
+
+/// `struct timespec` of 64-bit Linux.
+#[repr(C)]
+struct Time {
+    seconds: i64,
+    nanoseconds: i64,
+}
+
+/// `CLOCK_THREAD_CPUTIME_ID` of Linux.
+const THREAD_TIME: i32 = 3;
+
+extern "C" {
+    fn clock_gettime(clock: i32, time: *mut Time) -> i32;
+}
+
+/// The processor time that this thread has had so far, the kernel's work for it included.
+fn thread_seconds() -> f64 {
+    let mut time = Time {
+        seconds: 0,
+        nanoseconds: 0,
+    };
+    // SAFETY: The function is the C library's, which std links, and writes no more than one `Time`.
+    if unsafe { clock_gettime(THREAD_TIME, &mut time) } != 0 {
+        crate::stop("bench: this machine does not count a thread's time");
+    }
+    time.seconds as f64 + time.nanoseconds as f64 / 1e9
 }
