@@ -73,7 +73,7 @@ fn carried(folder: &Path) -> Vec<u8> {
     let archive = watched(folder.join(LIBRARY));
     let library = read(&archive);
     let sum = String::from_utf8_lossy(&read(&watched(folder.join(SUM)))).into_owned();
-    if sum.split_whitespace().next() != Some(&sha256(&library)) {
+    if sum.split_whitespace().next() != Some(sha256(&library).as_str()) {
         stop(&format!("the sha256 of {} is not the one beside it", archive.display()));
     }
     library
