@@ -13,15 +13,9 @@ use std::fs::{self, OpenOptions, Permissions};
 use std::io::{self, ErrorKind, Write};
 use std::path::{Path, PathBuf};
 use std::process;
-use trovespan::Refusal;
-
-/// The refusal whose value is the room needed.
-const NO_ROOM: u32 = 10;
+use trovespan::AT_MOST;
 
 const USAGE: &str = "extract [--at-most N] FILE STREAM OUT";
-
-/// The most bytes that are extracted, if the caller does not say it.
-const AT_MOST: usize = 268_435_456;
 
 fn main() {
     let mut arguments = arguments();
@@ -56,7 +50,7 @@ fn number(name: &str, word: &OsStr, largest: u64) -> u64 {
 
 /// The bytes of a whole stream, or why there are none. Allocates nothing before both are known to be possible.
 fn extract(file: &[u8], stream: u32, at_most: usize) -> Result<Vec<u8>, String> {
-    let length = stream_length(file, stream).map_err(|why| why.to_string())?;
+    let length = trovespan::stream_length(file, stream).map_err(|why| why.to_string())?;
     if length > at_most {
         return Err(format!("it has {length} bytes, more than {at_most} (--at-most N allows N bytes)"));
     }
@@ -65,14 +59,6 @@ fn extract(file: &[u8], stream: u32, at_most: usize) -> Result<Vec<u8>, String> 
     bytes.resize(length, 0);
     trovespan::extract(file, stream, None, &mut bytes).map_err(|why| why.to_string())?;
     Ok(bytes)
-}
-
-/// The number of bytes in a stream. An empty store has no room for them, unless there are none.
-fn stream_length(file: &[u8], stream: u32) -> Result<usize, Refusal> {
-    match trovespan::extract(file, stream, None, &mut []) {
-        Err(Refusal { number: NO_ROOM, value }) => Ok(value as usize),
-        answer => answer,
-    }
 }
 
 /// Writes to OUT. If OUT is not a regular file but, for example, a pipe, it is written in place, not replaced.

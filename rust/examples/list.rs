@@ -14,12 +14,10 @@ use std::fs::File;
 use std::io::{self, BufWriter, Write};
 use std::os::unix::io::AsFd;
 use std::time::{Duration, Instant};
-use trovespan::{Mapped, Refusal};
+use trovespan::{Kind, Mapped, Refusal};
 
-// Refusals that are treated in a special way here.
-const STREAM_NOT_FOUND: u32 = 5;
+// Refusals of the listing itself.
 const SHORT_DATA: u32 = 7;
-const NO_ROOM: u32 = 10;
 const OVER_LIMIT: u32 = 11;
 
 /// The most streams that are listed. PDB files number their streams with 16 bits, and 65,535 means none.
@@ -83,7 +81,7 @@ fn write_lines(file: &[u8], streams: u32, out: &mut impl Write) -> io::Result<()
         match stores.map(file, stream) {
             Ok(mapped) => writeln!(out, "{stream} {} {}", mapped.length, mapped.slices)?,
             // The number is below the count, so the stream is absent.
-            Err(why) if why.number == STREAM_NOT_FOUND => writeln!(out, "{stream} 0 0")?,
+            Err(why) if why.kind() == Kind::StreamNotFound => writeln!(out, "{stream} 0 0")?,
             Err(why) => writeln!(out, "{stream} {}", refused(why))?,
         }
     }
@@ -94,7 +92,7 @@ fn refused(why: Refusal) -> String {
     format!("refused {} {}", why.number, why.value)
 }
 
-/// The words of a refusal. The library has no limits, so it has no words for this one.
+/// The words of a refusal. The library does not know what the limit is of.
 fn in_words(why: Refusal) -> String {
     match why.number {
         OVER_LIMIT => format!("refused {OVER_LIMIT}: over {} streams, the limit of this program", why.value),
@@ -135,8 +133,8 @@ impl Stores {
     /// Maps a whole stream, and grows the stores if needed.
     fn map(&mut self, file: &[u8], stream: u32) -> Result<Mapped, Refusal> {
         match trovespan::map(file, stream, None, &mut self.offsets, &mut self.sizes) {
-            Err(Refusal { number: NO_ROOM, value }) => {
-                self.grow(value as usize);
+            Err(why) if why.kind() == Kind::NoRoom => {
+                self.grow(why.value as usize);
                 trovespan::map(file, stream, None, &mut self.offsets, &mut self.sizes)
             }
             answer => answer,

@@ -1,18 +1,26 @@
+use std::process::ExitCode;
 use std::{env, error::Error, fs};
+use trovespan::{Container, AT_MOST};
 
-fn main() -> Result<(), Box<dyn Error>> {
+fn main() -> ExitCode {
+    match show() {
+        Ok(()) => ExitCode::SUCCESS,
+        Err(why) => {
+            eprintln!("{why}");
+            ExitCode::FAILURE
+        }
+    }
+}
+
+fn show() -> Result<(), Box<dyn Error>> {
     let path = env::args().nth(1).ok_or("usage: snippet FILE")?;
     let file = fs::read(path)?;
-    let opened = trovespan::open(&file)?;
-    println!("page size {}, streams {}", opened.page_size, trovespan::stream_count(&file)?);
+    let container = Container::open(&file)?;
+    println!("page size {}, streams {}", container.header()?.page_size, container.stream_count()?);
 
-    // An empty store is refused with 10, and the value is the room needed.
-    let room = match trovespan::extract(&file, 1, None, &mut []) {
-        Err(why) if why.number == 10 => why.value as usize,
-        answer => answer?,
-    };
-    let mut stream = vec![0; room];
-    println!("stream 1: {} bytes", trovespan::extract(&file, 1, None, &mut stream)?);
+    // A small file can have a stream of 4 GB. This allocates nothing for more than AT_MOST bytes.
+    let stream = container.stream(1).bytes(AT_MOST)?;
+    println!("stream 1: {} bytes", stream.len());
 
     // Three numbers for each annotation: opcode, first operand, second operand or 0.
     let mut store = [0; 6];
