@@ -60,6 +60,28 @@ pub fn can_take(bytes: &[u8], at: usize, n: usize) -> bool
 pub fn word_at(bytes: &[u8], at: usize) -> u32
     ensures { λ r. ⌜ r ≡ word (byteAt (now (bytes .entry))) at ⌝ }
 {
+    if can_take(bytes, at, 4) {
+        return word_in(bytes, at);
+    }
+    cut_word(bytes, at)
+}
+
+// The same if all four bytes are there. Indexed in place, with no test between, they are one load.
+pub fn word_in(bytes: &[u8], at: usize) -> u32
+    requires { ⌜ at + 4 ≤ length (now bytes) ⌝ }
+    ensures { λ r. ⌜ r ≡ word (byteAt (now (bytes .entry))) at ⌝ }
+{
+    let a = bytes[at] as u32;
+    let b = bytes[at + 1] as u32;
+    let c = bytes[at + 2] as u32;
+    let d = bytes[at + 3] as u32;
+    join(a, b, c, d)
+}
+
+// The same byte by byte, for a number that may reach past the end.
+fn cut_word(bytes: &[u8], at: usize) -> u32
+    ensures { λ r. ⌜ r ≡ word (byteAt (now (bytes .entry))) at ⌝ }
+{
     if bytes.len() <= at {
         return 0;
     }

@@ -1,51 +1,27 @@
--- Past the end every byte is 0, and so is the word; else it is put together from its four bytes.
+-- Both ways read the word. The test is what `word_in` asks for.
 -- Assumes nothing.
+use mathlib.Core.Path.{sym, _∙_}
 use borrow.Author.Needs.{needs}
-use Rattle.parse_buffer.proofs.WordLaws.{word-past, word-is}
+use borrow.Author.Tests.{leb-true}
 use Rattle.parse_buffer.proofs.word_at.Statement.{statement}
 use Rattle.parse_buffer.proofs.word_at.Tie as tie
 
+can-take-requires : tie.Need-can-take-requires
+can-take-requires c κs = search needs
+
+word-in-requires : tie.Need-word-in-requires
+word-in-requires c κs = leb-true _ _ (sym (c .before .can-take .ensures) ∙ c .if1 .taken)
+
 returns : tie.Need-returns
-returns c = search word-past
+returns c = search needs
 
-byte-requires : tie.Need-byte-requires
-byte-requires c κs = search needs
-
-add-byte : tie.Need-add-byte
-add-byte c = search needs
-
-byte-requires-2 : tie.Need-byte-requires-2
-byte-requires-2 c κs = search needs
-
-add-byte-2 : tie.Need-add-byte-2
-add-byte-2 c = search needs
-
-byte-requires-3 : tie.Need-byte-requires-3
-byte-requires-3 c κs = search needs
-
-add-byte-3 : tie.Need-add-byte-3
-add-byte-3 c = search needs
-
-byte-requires-4 : tie.Need-byte-requires-4
-byte-requires-4 c κs = search needs
-
-join-requires : tie.Need-join-requires
-join-requires c κs = search needs
+cut-word-requires : tie.Need-cut-word-requires
+cut-word-requires c κs = search needs
 
 returns-2 : tie.Need-returns-2
-returns-2 c = search word-is
+returns-2 c = search needs
 
 pub word-at-spec : {M : Type 1} → statement M
 word-at-spec =
     tie.close
-    (tie.spec
-    returns
-    byte-requires
-    add-byte
-    byte-requires-2
-    add-byte-2
-    byte-requires-3
-    add-byte-3
-    byte-requires-4
-    join-requires
-    returns-2)
+    (tie.spec can-take-requires word-in-requires returns cut-word-requires returns-2)
