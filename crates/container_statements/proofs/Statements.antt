@@ -39,21 +39,11 @@ use Rattle.msf.proofs.CopyLaws.{through-length, through-at}
 use Rattle.store.proofs.SetsLaws.{sets-first, sets-beyond}
 use Rattle.extent.proofs.ExtentLaws.{length-most, Asked-at, asked-at, readable-at}
 use Rattle.mapping.proofs.MappingLaws.{mapping-at}
-use Rattle.extent.specs.declared.Extent.{Extent}
-use Rattle.mapping.specs.declared.Mapping.{Mapping}
-use Rattle.mapping.specs.declared.Plan.{Plan}
 use Rattle.extent.specs.declared.limit.Limit.{Limit}
 use Rattle.msf.specs.declared.to_bytes.Extracted.{Extracted}
 use Rattle.container_statements.specs.Statements.{SingleValued, Extracted-from, TheByte, TheSlices, Pages-needed, Entries-of, Own}
 use Rattle.paged.proofs.LiesLaws.{lies-byte}
 use Rattle.container_statements.proofs.Told.{told}
-
-same-plan : (a b : Plan) → a .answer ≡ b .answer → a .extent ≡ b .extent → a ≡ b
-same-plan a b e g =
-    ap (λ (x : Mapping). planOf x (a .extent)) e ∙ ap (λ (x : Extent). planOf (b .answer) x) g
-  where
-    planOf : Mapping → Extent → Plan
-    planOf answer extent = record { answer = answer; extent = extent }
 
 pub single-valued : SingleValued
 single-valued =
@@ -74,8 +64,7 @@ single-valued =
       find = λ f len k a b p q. only soughtIn (told .sought) _ a b (p .answer) (q .answer);
       measure = λ f len k limit a b p q. only measuredIn (told .measured) _ a b (p .answer) (q .answer);
       readable = λ f len k limit a b p q. only measuredIn (told .measured) _ a b (p .answer) (q .answer);
-      judge = λ f len k limit room a b p q.
-          same-plan a b (only mappedIn (told .mapped) _ (a .answer) (b .answer) (p .answer) (q .answer)) (p .extent ∙ sym (q .extent));
+      judge = λ f len k limit room a b p q. only measuredIn (told .measured) _ a b (p .answer) (q .answer);
     }
 
 -- ---- what is asked for is held by the pages of the stream

@@ -12,9 +12,9 @@ use Rattle.parse_buffer.specs.declared.Parsed.the-variants as parsed
 use Rattle.paged.specs.Refusal.{refusalIn}
 use Rattle.paged.specs.declared.refusal.Refusal.{Refusal}
 use Rattle.paged.specs.declared.refusal.Refusal.the-variants.{UnrecognizedFileFormat, UnimplementedFeature, InvalidPageSize, PageReferenceOutOfRange, StreamNotFound, FileEnds, ShortData, NoRoom}
-use Rattle.paged.specs.Checks.{checkedIn}
-use Rattle.paged.specs.declared.pages.Checked.{Checked}
-use Rattle.paged.specs.declared.pages.Checked.the-variants as checked
+use Rattle.runs.specs.Inner.{checkedIn}
+use Rattle.runs.specs.declared.Checked.{Checked}
+use Rattle.runs.specs.declared.Checked.the-variants as checked
 use Rattle.header.specs.Inner.{headedIn}
 use Rattle.header.specs.declared.Headed.{Headed}
 use Rattle.header.specs.declared.Headed.the-variants as headed

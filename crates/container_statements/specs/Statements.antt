@@ -11,14 +11,14 @@ use Rattle.parse_buffer.specs.Parse.{parsedIn, Parsing, InPlace, Taking}
 use Rattle.paged.specs.Refusal.{refusalIn}
 use Rattle.paged.specs.PageSize.{PageSize, need}
 use Rattle.paged.specs.Pages.{directoryWord}
-use Rattle.paged.specs.Checks.{checkedIn}
+use Rattle.runs.specs.Inner.{checkedIn}
 use Rattle.header.specs.Inner.{headedIn, Heading, Locating}
 use Rattle.header.specs.Promises.{openedIn, Opening}
 use Rattle.directory.specs.Inner.{Reaching}
 use Rattle.directory.specs.Promises.{countedIn, Counting}
 use Rattle.stream.specs.Inner.{presenceIn, soughtIn, Finding}
 use Rattle.extent.specs.Inner.{measuredIn, Measuring, Reading}
-use Rattle.mapping.specs.Inner.{Plans}
+use Rattle.mapping.specs.Inner.{Judging}
 use Rattle.stream.specs.Stream.{absent, sizeAt, pagesOf, firstOf, ownPage, ownPages, found}
 use Rattle.stream.specs.declared.Found.{Found}
 use Rattle.slices.specs.Slices.{Full, total, placeOf}
@@ -66,7 +66,7 @@ pub record SingleValued : Type 0 where
   pub find : (f : File) (len k : ℕ) → Only (Finding f len k)
   pub measure : (f : File) (len k : ℕ) (limit : Limit) → Only (Measuring f len k limit)
   pub readable : (f : File) (len k : ℕ) (limit : Limit) → Only (Reading f len k limit)
-  pub judge : (f : File) (len k : ℕ) (limit : Limit) (room : ℕ) → Only (Plans f len k limit room)
+  pub judge : (f : File) (len k : ℕ) (limit : Limit) (room : ℕ) → Only (Judging f len k limit room)
 
 -- where byte i of a stream stands in the file: page (i / P) * P + i mod P, where `page` is the stream's own entries in
 -- the directory

@@ -1,6 +1,6 @@
 -- The ways out of steps 4 and 5 and of the stream count; what a reached directory is known to be.
 use mathlib.Core.Path.{_≡_, sym, _∙_, ap}
-use Prim.Native.Nat.{ℕ, _*_, _^_, _≤_, _<_}
+use Prim.Native.Nat.{ℕ, _+_, _*_, _^_, _≤_, _<_}
 use native.Mathlib.Omega.{arith}
 use borrow.Author.Tests.{le-leb, lt-leb}
 use mir.Syntax.{w64}
@@ -10,12 +10,15 @@ use Rattle.outcome.proofs.OutcomeLaws.{came, came-by, ok-is}
 use Rattle.parse_buffer.specs.Bytes.{File}
 use Rattle.paged.specs.PageSize.{PageSize, need}
 use Rattle.paged.specs.Pages.{location, directoryPage, directoryWord}
-use Rattle.paged.specs.Checks.{checkPages, liesInFile, checkedIn, whyChecked}
+use Rattle.paged.specs.Checks.{checkPages, liesInFile}
+use Rattle.runs.specs.Inner.{checkedIn, whyChecked, Lying}
+use Rattle.runs.proofs.LyingLaws.{location-lies, list-lies, directory-lies}
 use Rattle.paged.proofs.SizeLaws.{need-le}
 use Rattle.paged.specs.declared.refusal.Refusal.{Refusal}
 use Rattle.paged.specs.declared.refusal.Refusal.the-variants.{ShortData}
-use Rattle.paged.specs.declared.pages.Checked.{Checked}
-use Rattle.paged.specs.declared.pages.Checked.the-variants as checked
+use Rattle.paged.specs.declared.pages.Pages.the-variants.{Location, Directory, Stream}
+use Rattle.runs.specs.declared.Checked.{Checked}
+use Rattle.runs.specs.declared.Checked.the-variants as checked
 use Rattle.header.specs.Header.{entriesInBlock, words, directoryPages, locationPages, located}
 use Rattle.header.specs.Inner.{headedIn, whyHeaded, Locating}
 use Rattle.header.proofs.OpenLaws.{is-located}
@@ -62,6 +65,12 @@ module _ {f : File} {len : ℕ} {r : Headed} (p : Locating f len r) where
         pub entries-fit : m ≤ 2 ^ 32
         entries-fit = let few : m ≤ entriesInBlock = rw (pm, pd) (is-located f len located-is .few) in omega arith
 
+        pub locations-lie : Lying f len (h .pagesize) Location m
+        locations-lie =
+            let at = is-located f len located-is in
+            let few : m ≤ entriesInBlock = rw (pm, pd) (at .few) in
+            location-lies f len (h .pagesize) (let long = at .long in omega arith)
+
         module _ (c₁ : Checked) (e₁ : checkedIn c₁ ≡ liesInFile len (h .pagesize) (location f) (4 * d) m) where
           listed : liesInFile len (h .pagesize) (location f) (4 * directoryPages h) (locationPages h) ≡ checkedIn c₁
           listed = rw (← pd, ← pm) (sym e₁)
@@ -69,6 +78,10 @@ module _ {f : File} {len : ℕ} {r : Headed} (p : Locating f len r) where
           pub list-ends : {why v : Refusal} → c₁ ≡ checked.Refused why → v ≡ whyChecked c₁ → Reaching f len (Refused v)
           unfolding reached headedIn checkedIn _>>=_ _>>_
           list-ends w u = record { answer = rw (located-is, listed, u, w) }
+
+          pub listed-lie : c₁ ≡ checked.Fine → Lying f len (h .pagesize) Directory d
+          unfolding checkedIn
+          listed-lie w = list-lies f len (h .pagesize) reach-size (rw (← pm) (sym e₁ ∙ ap checkedIn w))
 
           module _ (w₁ : c₁ ≡ checked.Fine) (c₂ : Checked) (e₂ : checkedIn c₂ ≡ checkPages (h .used) (directoryPage f (h .pagesize)) d) where
             paged : checkPages (h .used) (directoryPage f (h .pagesize)) (directoryPages h) ≡ checkedIn c₂
@@ -116,6 +129,12 @@ reached-at f len {h} e =
       checked = rw (← same) c;
       held = rw (← same) d;
     }
+
+-- so do its words
+pub reached-lies : (f : File) (len first n : ℕ) {h : Header} → reached f len ≡ ok h → first + n ≤ words h → Lying f len (h .pagesize) (Stream first) n
+reached-lies f len first n {h} e l =
+    let at = reached-at f len e in
+    directory-lies f len (h .pagesize) (at .size) (at .held) (omega arith)
 
 -- ---- the stream count
 module _ {f : File} {len : ℕ} {r : Headed} (p : Reaching f len r) where

@@ -8,6 +8,8 @@ use Rattle.paged.specs.Refusal.{refusalIn}
 use Rattle.paged.specs.PageSize.{PageSize, need}
 use Rattle.paged.specs.declared.refusal.Refusal.{Refusal}
 use Rattle.paged.specs.declared.refusal.Refusal.the-variants.{ShortData}
+use Rattle.paged.specs.declared.pages.Pages.the-variants.{Stream}
+use Rattle.runs.specs.Inner.{Lying}
 use Rattle.stream.specs.Stream.{ownPages}
 use Rattle.stream.specs.declared.Found.{Found}
 use Rattle.extent.specs.Extent.{Asked, asked, readable, extentOf}
@@ -23,7 +25,11 @@ pub record Extends (x : Extent) : Type 0 where
   pub whole : x .pages ≡ need (x .pagesize) (x .bytes)
   pub small : x .first + x .pages ≤ 2 ^ 32
 
--- and of a stream that was found
+-- its page numbers lie in a file of `len` bytes
+abbrev pub EntriesLie : File → ℕ → Extent → Type 0
+EntriesLie f len x = Lying f len (x .pagesize) (Stream (x .first)) (x .pages)
+
+-- what holds of a stream that was found
 pub record Held (x : Found) : Type 0 where
   pub size : PageSize (x .header .pagesize)
   pub small : x .first + ownPages x ≤ 2 ^ 32
@@ -46,7 +52,9 @@ extents o = do
 pub record Measuring (f : File) (len k : ℕ) (limit : Limit) (r : Measured) : Type 0 where
   pub answer : measuredIn r ≡ extents (asked f len k limit)
   pub extends : (x : Extent) → measuredIn r ≡ ok x → Extends x
+  pub lie : (x : Extent) → measuredIn r ≡ ok x → EntriesLie f len x
 
 pub record Reading (f : File) (len k : ℕ) (limit : Limit) (r : Measured) : Type 0 where
   pub answer : measuredIn r ≡ extents (readable f len k limit)
   pub extends : (x : Extent) → measuredIn r ≡ ok x → Extends x
+  pub lie : (x : Extent) → measuredIn r ≡ ok x → EntriesLie f len x

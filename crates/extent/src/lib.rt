@@ -5,12 +5,12 @@
 mod limit;
 
 pub use limit::Limit;
-use paged::Checked;
 use paged::Pages;
 use paged::Refusal;
 use paged::StreamNumber;
-use paged::lies_in_file;
 use paged::pages_needed_to_store;
+use runs::Checked;
+use runs::lies_in_file;
 use stream::Found;
 use stream::Sought;
 use stream::find;

@@ -19,17 +19,20 @@ use Rattle.paged.specs.PageSize.{need}
 use Rattle.paged.specs.Pages.{directoryWord}
 use Rattle.paged.proofs.SizeLaws.{need-least}
 use Rattle.paged.specs.declared.refusal.Refusal.{Refusal}
+use Rattle.paged.specs.declared.pages.Pages.the-variants.{Stream}
+use Rattle.runs.specs.Inner.{Lying}
+use Rattle.directory.proofs.DirectoryLaws.{reached-lies}
 use Rattle.slices.specs.Inner.{slicesThrough}
 use Rattle.stream.specs.Stream.{absent, present, pagesOf, skippedTo, found}
 use Rattle.stream.specs.Inner.{soughtIn, whySought, Before, Skipped, Finding}
-use Rattle.stream.proofs.StreamLaws.{before-none, before-more}
+use Rattle.stream.proofs.StreamLaws.{before-none, before-one}
 use Rattle.stream.proofs.FindLaws.{found-not-5}
 use Rattle.stream.specs.declared.Found.{Found}
 use Rattle.stream.specs.declared.Sought.{Sought}
 use Rattle.stream.specs.declared.Sought.the-variants as sought
 use Rattle.extent.specs.Extent.{askedOf, asked, extentOf}
-use Rattle.extent.specs.Inner.{Held}
-use Rattle.extent.proofs.ExtentLaws.{measure-held}
+use Rattle.extent.specs.Inner.{EntriesLie, Held}
+use Rattle.extent.proofs.ExtentLaws.{measure-held, first-lie}
 use Rattle.extent.specs.declared.limit.Limit.the-variants.{None}
 use Rattle.extent.specs.declared.Extent.{Extent}
 use Rattle.mapping.specs.Mapping.{mapped}
@@ -82,6 +85,9 @@ module _ {f : File} {len k : ℕ} {r : Sought} (p : Finding f len k r) where
     pub show-held : x .header .directory < 2 ^ 32 → Held x
     show-held h = measure-held p None e h
 
+    pub show-lie : {y : Extent} → y ≡ extentOf (askedOf None x) → EntriesLie f len y
+    show-lie is = rw is (first-lie f len k None found-is)
+
     pub show-stream : {y : Extent} {c : ℕ} → y ≡ extentOf (askedOf None x) → c ≡ length (slicesThrough f y) → shownIn (line.Stream (record { size = x .size; slices = c })) ≡ shown f len k
     unfolding shownIn shownOf mapped asked _>>=_
     show-stream is c = rw (found-is, c, is)
@@ -119,6 +125,13 @@ module _ (f : File) (len n : ℕ) {t t′ : List ℕ} {r : ℕ} where
 
 pub ruleset line-cases = (line-head, line-shown)
 
+-- ---- the sizes of the streams before a line's stream lie in the file
+pub sizes-lie : {f : File} {len : ℕ} {s : Listable} → Whole f len s → (i : ℕ) → i ≤ 1 + s .count → Lying f len (s .header .pagesize) (Stream 1) (i - 1)
+sizes-lie {f} {len} w i has =
+    let at = whole-at f len w in
+    let all = at .sizes in
+    reached-lies f len 1 (i - 1) (at .reached) (omega arith)
+
 -- ---- the carried count: at the head, past it, and past a stream
 pub past-none : {f : File} {p : ℕ} (i : ℕ) → i ≡ 0 → Before f p (i - 1) 0
 past-none {f} {p} i e = rw e (before-none f p)
@@ -143,6 +156,6 @@ module _ {f : File} {len : ℕ} {s : Listable} (w : Whole f len s) (i : ℕ) (ha
   past-stream z is =
       let same : 1 + (i - 1) ≡ i = omega (arith, z) in
       let next : i - 1 + 1 ≡ i + 1 - 1 = omega (arith, z) in
-      rw (← next) (before-more f (s .header .pagesize) before (is ∙ rw same) pages (whole-size w) fits)
+      rw (← next) (before-one f (s .header .pagesize) before (is ∙ rw same) pages (whole-size w) fits)
 
 pub ruleset past-cases = (past-none, past-head, past-stream)

@@ -1,26 +1,22 @@
--- The ways out of judging a mapping; what the slices of a plan are, and that they fit.
+-- The ways out of judging a mapping; what an accepted mapping is known to be.
 use mathlib.Core.Path.{_≡_, refl, sym, _∙_, ap}
-use mathlib.Core.List.{List, [], map}
 use Prim.Native.Nat.{ℕ, _*_, _≤_, _<_}
 use native.Mathlib.Omega.{arith}
 use borrow.Author.Tests.{le-leb, lt-leb, leb-true}
-use lib.Count
 use lib.ListN.{length}
-use lib.Seq.{sets}
-use Rattle.outcome.specs.Outcome.{Outcome, ok, refused, _>>=_, _>>_, require}
-use Rattle.outcome.specs.Refusal as paper
-use Rattle.outcome.specs.Store.{written}
-use Rattle.outcome.proofs.OutcomeLaws.{came, came-by, ok-is, passed}
+use Rattle.outcome.specs.Outcome.{ok, refused, _>>=_, _>>_, require}
+use Rattle.outcome.proofs.OutcomeLaws.{came, came-by, ok-is, ok-refused, passed}
 use Rattle.parse_buffer.specs.Bytes.{File}
-use Rattle.paged.specs.PageSize.{PageSize, smallest, sizeFits, need}
-use Rattle.paged.proofs.SizeLaws.{need-covers, need-least}
+use Rattle.paged.specs.PageSize.{PageSize}
+use Rattle.paged.specs.Refusal.{refusalIn}
+use Rattle.paged.proofs.SizeLaws.{need-covers, need-rises}
 use Rattle.paged.specs.declared.refusal.Refusal.{Refusal}
 use Rattle.paged.specs.declared.refusal.Refusal.the-variants.{NoRoom}
 use Rattle.directory.proofs.DirectoryLaws.{reached-at}
 use Rattle.stream.specs.Stream.{ownPage, ownPages}
 use Rattle.stream.proofs.FindLaws.{found-at}
-use Rattle.extent.specs.Extent.{Asked, asked, extentOf}
-use Rattle.extent.specs.Inner.{Extends, measuredIn, whyMeasured, Measuring}
+use Rattle.extent.specs.Extent.{Asked, asked, extentOf, pageIn}
+use Rattle.extent.specs.Inner.{Extends, EntriesLie, measuredIn, extents, Measuring}
 use Rattle.extent.proofs.ExtentLaws.{length-most, Is-of, is-of, is-refused, asked-at}
 use Rattle.extent.specs.declared.limit.Limit.{Limit}
 use Rattle.extent.specs.declared.Extent.{Extent}
@@ -28,12 +24,10 @@ use Rattle.extent.specs.declared.Measured.{Measured}
 use Rattle.extent.specs.declared.Measured.the-variants as measured
 use Rattle.slices.specs.Slices.{slicesOf, cut}
 use Rattle.slices.specs.Inner.{slicesThrough}
-use Rattle.slices.proofs.SliceLaws.{cut-past-pages}
-use Rattle.slices.specs.declared.SourceSlice.{SourceSlice}
+use Rattle.slices.proofs.SliceLaws.{cut-past-pages, slices-few, cut-few}
 use Rattle.mapping.specs.Mapping.{slicesIn, mapping, mapped, mappedIn}
-use Rattle.mapping.specs.Inner.{noBytes, extentFor, Plans}
+use Rattle.mapping.specs.Inner.{Writable, Judging}
 use Rattle.mapping.specs.declared.Mapping.the-variants as variant
-use Rattle.mapping.specs.declared.Plan.{Plan}
 
 -- ---- the slices of what was asked for are those of its extent: pages past the length change nothing
 module _ (f : File) (len k : ℕ) (limit : Limit) {x : Asked} (e : asked f len k limit ≡ ok x) where
@@ -43,11 +37,9 @@ module _ (f : File) (len k : ℕ) (limit : Limit) {x : Asked} (e : asked f len k
   -- the pages of what is asked for are among the stream's own
   pub asked-few : extentOf x .pages ≤ ownPages (x .found)
   asked-few =
-      let p = x .found .header .pagesize in
       let s = asked-size .least in
-      let all : x .found .size ≤ ownPages (x .found) * p = need-covers p (x .found .size) (omega arith) in
-      let most : x .length ≤ x .found .size = rw (asked-at f len k limit e .length) (length-most limit (x .found .size)) in
-      need-least p (x .length) (omega arith) (ownPages (x .found)) (omega arith)
+      need-rises (x .found .header .pagesize) (omega arith)
+      (rw (asked-at f len k limit e .length) (length-most limit (x .found .size)))
 
   pub slices-asked : slicesIn f x ≡ slicesThrough f (extentOf x)
   slices-asked =
@@ -56,65 +48,59 @@ module _ (f : File) (len k : ℕ) (limit : Limit) {x : Asked} (e : asked f len k
       cut-past-pages p (ownPage f (x .found)) (omega arith) (x .length) (extentOf x .pages) (ownPages (x .found))
       (need-covers p (x .length) (omega arith)) asked-few
 
--- ---- a plan of nothing
-smallest-passes : PageSize smallest
-unfolding sizeFits Count.ones Count.onesIn
-smallest-passes = record { fits = refl; least = omega arith; most = omega arith }
-
-no-extends : Extends noBytes
-unfolding need
-no-extends = record { size = smallest-passes; whole = refl; small = omega arith }
-
 -- ---- `judge`
 module _ {f : File} {len k : ℕ} {limit : Limit} {r : Measured} (p : Measuring f len k limit r) (room : ℕ) where
-  pub plan-none : {why v : Refusal} {y : Plan} → r ≡ measured.Refused why → v ≡ whyMeasured r → y ≡ record { answer = variant.Refused v; extent = noBytes } → Plans f len k limit room y
-  unfolding mapping mapped mappedIn extentFor measuredIn _>>=_
-  plan-none e u is =
+  pub judge-refused : {why : Refusal} → r ≡ measured.Refused why → Judging f len k limit room r
+  unfolding mapping extents measuredIn _>>=_
+  judge-refused e =
       let g : asked f len k limit ≡ refused _ = is-refused _ (sym (p .answer) ∙ ap measuredIn e) in
-      rw is (record { answer = rw (g, u, e); extent = rw g; extends = no-extends })
+      record { answer = ap measuredIn e ∙ rw g; writable = λ x w. absurd (ok-refused (sym w ∙ ap measuredIn e)) }
 
   module _ {x : Extent} (e : r ≡ measured.Extent x) where
     of : Is-of (asked f len k limit) x
     unfolding measuredIn
     of = is-of _ (sym (p .answer) ∙ ap measuredIn e)
 
-    pub plan-extends : Extends x
+    pub judge-extends : Extends x
     unfolding measuredIn
-    plan-extends = p .extends x (ap measuredIn e)
+    judge-extends = p .extends x (ap measuredIn e)
 
-    module _ {c : ℕ} (count-is : c ≡ length (slicesThrough f x)) where
-      counted : length (slicesIn f (of .asked)) ≡ c
-      counted =
-          ap length (slices-asked f len k limit (of .is) ∙ ap (slicesThrough f) (of .extent)) ∙ sym count-is
+    pub judge-lie : EntriesLie f len x
+    unfolding measuredIn
+    judge-lie = p .lie x (ap measuredIn e)
 
-      pub plan-no-room : {y : Plan} → room < c → y ≡ record { answer = variant.Refused (NoRoom c); extent = noBytes } → Plans f len k limit room y
-      unfolding mapping mapped mappedIn extentFor require _>>=_ _>>_
-      plan-no-room h is =
-          rw is
-          (record {
-            answer = rw (of .is, counted, lt-leb c room h);
-            extent = rw (of .is, counted, lt-leb c room h);
-            extends = no-extends;
-          })
+    same-slices : slicesIn f (of .asked) ≡ slicesThrough f x
+    same-slices = slices-asked f len k limit (of .is) ∙ ap (slicesThrough f) (of .extent)
 
-      pub plan-fine : c ≤ room → Plans f len k limit room (record { answer = variant.Mapped (record { slices = c; length = x .bytes }); extent = x })
-      unfolding mapping mapped mappedIn extentFor require _>>=_ _>>_
-      plan-fine h =
-          let bytes : of .asked .length ≡ x .bytes = ap (λ (y : Extent). y .bytes) (of .extent) in
-          record {
-            answer = rw (of .is, counted, le-leb c room h, counted, bytes);
-            extent = rw (of .is, counted, le-leb c room h, of .extent);
-            extends = plan-extends;
-          }
+    pub judge-no-room : {c : ℕ} → c ≡ length (slicesThrough f x) → room < c → Judging f len k limit room (measured.Refused (NoRoom c))
+    unfolding mapping extents measuredIn require _>>=_ _>>_
+    judge-no-room {c} count-is h =
+        let counted : length (slicesIn f (of .asked)) ≡ c = ap length same-slices ∙ sym count-is in
+        record {
+          answer = rw (of .is, counted, lt-leb c room h);
+          writable = λ y w. absurd (ok-refused (sym w));
+        }
 
-pub ruleset plan-cases = (plan-none, plan-no-room, plan-fine)
+    judge-fine : length (slicesThrough f x) ≤ room → Judging f len k limit room (measured.Extent x)
+    unfolding mapping extents measuredIn require _>>=_ _>>_
+    judge-fine h =
+        record {
+          answer = rw (of .is, same-slices, le-leb _ room h, of .extent);
+          writable = λ y w. rw (← ok-is w) (record { extends = judge-extends; lie = judge-lie; fit = h });
+        }
 
--- ---- what a plan says is to be written
--- the slices, or nothing
-unfoldable pub slicesFor : File → Outcome paper.Refusal Asked → List SourceSlice
-slicesFor f (ok x) = slicesIn f x
-slicesFor f (refused why) = []
+    pub judge-counted : {c : ℕ} → c ≡ length (slicesThrough f x) → c ≤ room → Judging f len k limit room (measured.Extent x)
+    judge-counted count-is h = judge-fine (omega (arith, count-is))
 
+    -- there are no more slices than pages
+    pub judge-few : x .pages ≤ room → Judging f len k limit room (measured.Extent x)
+    judge-few h =
+        judge-fine
+        (omega (arith, cut-few (x .bytes) (slicesOf (x .pagesize) (pageIn f x) (x .pages)), slices-few (x .pagesize) (pageIn f x) (x .pages)))
+
+pub ruleset judge-cases = (judge-refused, judge-no-room, judge-counted, judge-few)
+
+-- ---- an accepted mapping: what was asked for, and that its slices fit
 pub record Mapping-at (f : File) (len k : ℕ) (limit : Limit) (room : ℕ) (x : Asked) : Type 0 where
   pub asked : asked f len k limit ≡ ok x
   pub fits : length (slicesIn f x) ≤ room
@@ -126,33 +112,28 @@ mapping-at f len k limit room e =
     came _ _ e₁ λ _ fits e₂.
     record { asked = a ∙ e₂; fits = rw (← ok-is e₂) (leb-true _ _ (passed _ _ fits)) }
 
-module _ (f : File) where
-  pub written-is : {B : Type 0} (g : SourceSlice → B) (o : Outcome paper.Refusal Asked) (store : List B) → sets store 0 (map g (slicesFor f o)) ≡ written o (λ x. map g (slicesIn f x)) store
-  unfolding written slicesFor
-  written-is g (ok x) store = refl
-  written-is g (refused why) store = refl
+-- ---- once it is judged: the mapping itself, and its slices
+module _ {f : File} {len k room : ℕ} {limit : Limit} {r : Measured} (p : Judging f len k limit room r) where
+  pub judged-refused : {why : Refusal} → r ≡ measured.Refused why → mapping f len k limit room ≡ refused (refusalIn why)
+  unfolding measuredIn
+  judged-refused e = is-refused _ (sym (p .answer) ∙ ap measuredIn e)
 
-  pub written-slices : (o : Outcome paper.Refusal Asked) (store : List SourceSlice) → sets store 0 (slicesFor f o) ≡ written o (slicesIn f) store
-  unfolding written slicesFor
-  written-slices (ok x) store = refl
-  written-slices (refused why) store = refl
+  module _ {x : Extent} (e : r ≡ measured.Extent x) where
+    pub judged-writable : Writable f len room x
+    unfolding measuredIn
+    judged-writable = p .writable x (ap measuredIn e)
 
-module _ {f : File} {len k room : ℕ} {limit : Limit} {r : Plan} (p : Plans f len k limit room r) where
-  -- they fit
-  pub record Fits-as : Type 0 where
-    pub is : slicesThrough f (r .extent) ≡ slicesFor f (mapping f len k limit room)
-    pub fit : length (slicesThrough f (r .extent)) ≤ room
+    pub judged-is : Is-of (mapping f len k limit room) x
+    unfolding measuredIn
+    judged-is = is-of _ (sym (p .answer) ∙ ap measuredIn e)
 
-  pub plan-fits : Fits-as
-  unfolding extentFor slicesFor slicesOf cut
-  plan-fits = go (mapping f len k limit room) refl
-    where
-      go : (o : Outcome paper.Refusal Asked) → mapping f len k limit room ≡ o → Fits-as
-      go (ok x) g =
-          let extent : r .extent ≡ extentOf x = p .extent ∙ rw g in
-          let m = mapping-at f len k limit room g in
-          let same : slicesIn f x ≡ slicesThrough f (r .extent) = slices-asked f len k limit (m .asked) ∙ ap (slicesThrough f) (sym extent) in
-          record { is = rw g (sym same); fit = rw (← same) (m .fits) }
-      go (refused w) g =
-          let extent : r .extent ≡ noBytes = p .extent ∙ rw g in
-          record { is = rw (g, extent); fit = rw extent (omega arith) }
+    pub judged-slices : slicesIn f (judged-is .asked) ≡ slicesThrough f x
+    judged-slices =
+        slices-asked f len k limit (mapping-at f len k limit room (judged-is .is) .asked) ∙ ap (slicesThrough f) (judged-is .extent)
+
+    -- what it answers
+    pub judged-mapped : {c : ℕ} → c ≡ length (slicesThrough f x) → mappedIn (variant.Mapped (record { slices = c; length = x .bytes })) ≡ mapped f (mapping f len k limit room)
+    unfolding mapped mappedIn _>>=_
+    judged-mapped count =
+        let bytes : judged-is .asked .length ≡ x .bytes = ap (λ (y : Extent). y .bytes) (judged-is .extent) in
+        rw (judged-is .is, judged-slices, count, bytes)

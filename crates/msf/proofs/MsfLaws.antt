@@ -1,4 +1,4 @@
--- Mapping carries out its plan; the ways out of extraction.
+-- The ways out of mapping and of extraction.
 use mathlib.Core.Path.{_≡_, sym, _∙_, ap}
 use mathlib.Core.List.{List}
 use Prim.Native.Nat.{ℕ, min, _≤_, _<_}
@@ -13,38 +13,55 @@ use Rattle.paged.specs.Checks.{liesInFile}
 use Rattle.paged.specs.declared.refusal.Refusal.{Refusal}
 use Rattle.paged.specs.declared.refusal.Refusal.the-variants.{NoRoom}
 use Rattle.extent.specs.Extent.{readable, pageIn}
-use Rattle.extent.specs.Inner.{Extends, measuredIn, whyMeasured, Reading}
+use Rattle.extent.specs.Inner.{Extends, EntriesLie, measuredIn, whyMeasured, Reading}
 use Rattle.extent.proofs.ExtentLaws.{Is-of, is-of, is-refused, readable-at}
 use Rattle.extent.specs.declared.limit.Limit.{Limit}
 use Rattle.extent.specs.declared.Extent.{Extent}
 use Rattle.extent.specs.declared.Measured.{Measured}
 use Rattle.extent.specs.declared.Measured.the-variants as measured
 use Rattle.slices.specs.Inner.{slicesThrough, Writing}
-use Rattle.slices.specs.declared.SourceSlice.{SourceSlice}
-use Rattle.mapping.specs.Inner.{Plans}
-use Rattle.mapping.proofs.MappingLaws.{plan-fits, written-is}
-use Rattle.mapping.specs.declared.Plan.{Plan}
+use Rattle.mapping.specs.Mapping.{mapped, mappedIn}
+use Rattle.mapping.specs.Inner.{Judging}
+use Rattle.mapping.proofs.MappingLaws.{judged-refused, judged-writable, judged-is, judged-slices, judged-mapped}
+use Rattle.mapping.specs.declared.Mapping.the-variants as mapping
 use Rattle.msf.specs.Extraction.{extraction, lengthIn}
 use Rattle.msf.specs.Inner.{bytesOf, LiesIn}
 use Rattle.msf.specs.Promises.{extractedIn, Maps, Extracts}
 use Rattle.msf.specs.declared.to_bytes.Extracted.the-variants as extracted
 
 -- ---- `map`
-module _ {f : File} {len k room : ℕ} {limit : Limit} {r : Plan} (p : Plans f len k limit room r) (o t : List ℕ) (room-is : room ≡ min (length o) (length t)) where
-  pub room-offsets : length (slicesThrough f (r .extent)) ≤ length o
-  room-offsets = omega (arith, plan-fits p .fit)
+module _ {f : File} {len k room : ℕ} {limit : Limit} {r : Measured} (p : Judging f len k limit room r) (o t : List ℕ) (room-is : room ≡ min (length o) (length t)) where
+  pub map-refused : {why v : Refusal} → r ≡ measured.Refused why → v ≡ whyMeasured r → Maps f len k limit o t (mapping.Refused v) o t
+  unfolding mapped mappedIn written _>>=_
+  map-refused e u =
+      let is = judged-refused p e in
+      record { answer = rw (← room-is, is, u, e); offsets-after = rw (← room-is, is); sizes-after = rw (← room-is, is) }
 
-  pub room-sizes : length (slicesThrough f (r .extent)) ≤ length t
-  room-sizes = omega (arith, plan-fits p .fit)
+  module _ {x : Extent} (e : r ≡ measured.Extent x) where
+    pub map-extends : Extends x
+    map-extends = judged-writable p e .extends
 
-  pub map-planned : {o′ t′ : List ℕ} → Writing (slicesThrough f (r .extent)) o t o′ t′ → Maps f len k limit o t (r .answer) o′ t′
-  map-planned w =
-      let is = plan-fits p .is in
-      record {
-        answer = rw (← room-is) (p .answer);
-        offsets-after = w .offsets-are ∙ rw (← room-is, is) (written-is f (λ (s : SourceSlice). s .offset) _ o);
-        sizes-after = w .sizes-are ∙ rw (← room-is, is) (written-is f (λ (s : SourceSlice). s .size) _ t);
-      }
+    pub map-lie : EntriesLie f len x
+    map-lie = judged-writable p e .lie
+
+    pub map-offsets : length (slicesThrough f x) ≤ length o
+    map-offsets = omega (arith, judged-writable p e .fit)
+
+    pub map-sizes : length (slicesThrough f x) ≤ length t
+    map-sizes = omega (arith, judged-writable p e .fit)
+
+    pub map-written : {c : ℕ} {o′ t′ : List ℕ} → Writing (slicesThrough f x) c o t o′ t′ → Maps f len k limit o t (mapping.Mapped (record { slices = c; length = x .bytes })) o′ t′
+    unfolding written
+    map-written w =
+        let is = judged-is p e .is in
+        let slices = judged-slices p e in
+        record {
+          answer = rw (← room-is) (judged-mapped p e (w .count));
+          offsets-after = w .offsets-are ∙ rw (← room-is, is, slices);
+          sizes-after = w .sizes-are ∙ rw (← room-is, is, slices);
+        }
+
+pub ruleset map-cases = (map-refused, map-written)
 
 -- ---- `extract`
 module _ {f : File} {len k : ℕ} {limit : Limit} {r : Measured} (p : Reading f len k limit r) (o : List ℕ) where
@@ -62,6 +79,10 @@ module _ {f : File} {len k : ℕ} {limit : Limit} {r : Measured} (p : Reading f 
     pub read-extends : Extends x
     unfolding measuredIn
     read-extends = p .extends x (ap measuredIn e)
+
+    pub read-lie : EntriesLie f len x
+    unfolding measuredIn
+    read-lie = p .lie x (ap measuredIn e)
 
     pub read-lies : LiesIn f len x
     read-lies =

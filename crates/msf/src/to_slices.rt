@@ -1,5 +1,7 @@
-// Mapping a stream to slices of the file, into two lent stores: `judge` counts the slices, then they are written.
+// Mapping a stream to slices of the file, into two lent stores: `judge` sees that the slices fit, then they are written.
 use extent::Limit;
+use extent::Measured;
+use mapping::Mapped;
 use mapping::Mapping;
 use mapping::judge;
 use paged::StreamNumber;
@@ -23,7 +25,13 @@ pub fn map(
         ⌝ }
 {
     let room = least(offsets.len(), sizes.len());
-    let plan = judge(file, stream, limit, room);
-    write_slices(file, plan.extent, offsets, sizes);
-    plan.answer
+    let judged = judge(file, stream, limit, room);
+    let Measured::Extent(x) = judged else {
+        return Mapping::Refused(judged.why());
+    };
+    let slices = write_slices(file, x, offsets, sizes);
+    Mapping::Mapped(Mapped {
+        slices,
+        length: x.bytes,
+    })
 }

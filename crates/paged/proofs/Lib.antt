@@ -1,4 +1,4 @@
 pub mod SizeLaws
 pub mod PagesLaws
-pub mod CheckLaws
+pub mod FitLaws
 pub mod LiesLaws

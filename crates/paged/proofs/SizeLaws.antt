@@ -93,3 +93,7 @@ module _ (p b : ℕ) (h : 0 < p) where
   need-least n l =
       let k : (b + p - 1) / p < suc n = div-lt-iff-lt-mul h .1 (rw suc-mul (omega arith)) in
       omega arith
+
+-- fewer bytes take no more pages
+pub need-rises : (p : ℕ) {a b : ℕ} → 0 < p → a ≤ b → need p a ≤ need p b
+need-rises p {a} {b} h l = let all = need-covers p b h in need-least p a h (need p b) (omega arith)

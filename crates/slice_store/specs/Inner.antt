@@ -1,42 +1,54 @@
 -- What inner functions promise their callers.
 use mathlib.Core.Path.{_≡_}
-use Prim.Native.Nat.{ℕ, _+_, _-_, _<_}
+use Prim.Native.Nat.{ℕ, _-_, _<_}
+use Rattle.outcome.specs.Outcome.{Outcome, ok, refused}
+use Rattle.outcome.specs.Refusal as paper
 use Rattle.parse_buffer.specs.Bytes.{File}
-use Rattle.extent.specs.Inner.{Extends}
+use Rattle.paged.specs.PageSize.{smallest}
+use Rattle.runs.specs.Inner.{beforeFirst}
+use Rattle.extent.specs.Extent.{Asked, extentOf}
+use Rattle.extent.specs.Inner.{Extends, EntriesLie}
 use Rattle.extent.specs.declared.limit.Limit.{Limit}
-use Rattle.slices.specs.Inner.{start, onward, Near}
-use Rattle.slices.specs.declared.Walk.{Walk}
-use Rattle.mapping.specs.Inner.{Plans}
-use Rattle.mapping.specs.declared.Plan.{Plan}
+use Rattle.extent.specs.declared.Extent.{Extent}
+use Rattle.slices.specs.Inner.{StandsIn, StretchIn, start, onward, Near}
+use Rattle.mapping.specs.Mapping.{mapping, mapped, mappedIn}
+use Rattle.mapping.specs.Inner.{Writable}
 use Rattle.slice_store.specs.declared.Cursor.{Cursor}
 use Rattle.slice_store.specs.declared.Begun.{Begun}
 use Rattle.slice_store.specs.declared.Stepped.{Stepped}
 
--- ---- `begin`: what was judged, and the cursor before the first page of it
-abbrev pub cursorOf : Plan → ℕ → Walk → Cursor
-cursorOf p i w = record { extent = p .extent; page = i; walk = w }
+-- no byte, of pages of the smallest size
+abbrev pub noBytes : Extent
+noBytes = record { pagesize = smallest; first = 0; bytes = 0; pages = 0 }
+
+-- the bytes whose slices are to be written
+unfoldable pub extentFor : Outcome paper.Refusal Asked → Extent
+extentFor (ok x) = extentOf x
+extentFor (refused why) = noBytes
+
+-- ---- `begin`: the answer, and the cursor before the first page of what is to be written
+pub record Starts (x : Extent) (c : Cursor) : Type 0 where
+  pub extent : c .extent ≡ x
+  pub stretch : c .stretch ≡ beforeFirst
+  pub walk : c .walk ≡ start
 
 pub record Begins (f : File) (len k : ℕ) (limit : Limit) (room : ℕ) (r : Begun) : Type 0 where
-  pub plan : Plan
-  pub plans : Plans f len k limit room plan
-  pub answer : r .answer ≡ plan .answer
-  pub start : r .start ≡ cursorOf plan 0 start
+  pub answer : mappedIn (r .answer) ≡ mapped f (mapping f len k limit room)
+  pub start : Starts (extentFor (mapping f len k limit room)) (r .start)
+  pub writable : Writable f len room (extentFor (mapping f len k limit room))
 
 -- ---- `step`
-pub record Ready (c : Cursor) : Type 0 where
+pub record Ready (f : File) (len : ℕ) (c : Cursor) : Type 0 where
   pub extends : Extends (c .extent)
-  pub less : c .page < c .extent .pages
-  pub near : Near (c .extent .pagesize) (c .page) (c .walk)
+  pub lie : EntriesLie f len (c .extent)
+  pub stands : StandsIn f (c .extent) (c .stretch)
+  pub less : c .stretch .next < c .extent .pages
+  pub near : Near (c .extent .pagesize) (c .stretch .next) (c .walk)
 
--- the walk over one page more
-abbrev pub walkOn : File → Cursor → Walk
-walkOn f c = onward f (c .extent) (c .page) (c .walk)
-
--- the last slice stands at the last place
-unfoldable pub stepped : File → Cursor → Stepped
-stepped f c =
-    record {
-      at = walkOn f c .count - 1;
-      slice = walkOn f c .slice;
-      next = record { extent = c .extent; page = c .page + 1; walk = walkOn f c };
-    }
+-- the walk over one stretch more; its last slice goes to the last place
+pub record Stepping (f : File) (c : Cursor) (r : Stepped) : Type 0 where
+  pub extent : r .next .extent ≡ c .extent
+  pub stretch : StretchIn f (c .extent) (c .stretch .next) (r .next .stretch)
+  pub walk : r .next .walk ≡ onward (c .extent) (c .stretch .next) (r .next .stretch) (c .walk)
+  pub at : r .at ≡ r .next .walk .count - 1
+  pub slice : r .slice ≡ r .next .walk .slice

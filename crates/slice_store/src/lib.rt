@@ -1,36 +1,45 @@
 // The slice store: a stream mapped into a lent run of slice records, as the Rust's `PageList` hands out
 // (`src/msf/page_list.rs`, `src/source.rs`), where `msf::map` takes two number stores.
 //
-// Every decision is made by value: `begin` judges, and `step` says which entry the next page changes, and to what. Only
-// `map_into` touches the store.
+// Every decision is made by value: `begin` judges and answers, and `step` says which entry the next stretch of pages
+// changes, and to what. Only `map_into` touches the store.
 use extent::Extent;
 use extent::Limit;
+use extent::Measured;
+use header::Header;
+use mapping::Mapped;
 use mapping::Mapping;
 use mapping::judge;
+use paged::Pages;
 use paged::StreamNumber;
+use runs::Stretch;
+use runs::before_first;
+use runs::next_stretch;
 pub use slices::SourceSlice;
 use slices::Walk;
+use slices::count_slices;
 use slices::extend;
 ghost use mathlib.Core.Path.{_≡_};
 ghost use lib.ListN.{length};
 ghost use Rattle.parse_buffer.specs.Bytes.{byteAt};
-ghost use Rattle.slice_store.specs.Inner.{Begins, Ready, stepped};
+ghost use Rattle.slice_store.specs.Inner.{noBytes, Starts, Begins, Ready, Stepping};
 ghost use Rattle.slice_store.specs.Promises.{MapsInto};
 
-// Where the writing stands: what is asked for, and the walk over the first `page` of its pages.
+// Where the writing stands: what is asked for, the stretch of its pages that was read last, and the walk over the pages
+// up to the end of that stretch.
 struct Cursor {
     extent: Extent,
-    page: usize,
+    stretch: Stretch,
     walk: Walk,
 }
 
-// The answer, and where the writing starts: before no page at all where it is refused.
+// The answer, and where the writing starts. A refusal has an extent of no bytes, so that nothing is written.
 struct Begun {
     answer: Mapping,
     start: Cursor,
 }
 
-// One page more: an entry of the store, what it is now, and where the writing stands after it.
+// One stretch more: an entry of the store, what it is now, and where the writing stands after it.
 struct Stepped {
     at: usize,
     slice: SourceSlice,
@@ -51,7 +60,7 @@ pub fn map_into(
 {
     let begun = begin(file, stream, limit, store.len());
     let mut cursor = begun.start;
-    while cursor.page < cursor.extent.pages {
+    while cursor.stretch.next < cursor.extent.pages {
         let stepped = step(file, cursor);
         store[stepped.at] = stepped.slice;
         cursor = stepped.next;
@@ -59,30 +68,72 @@ pub fn map_into(
     begun.answer
 }
 
+// The answer is made before anything is written, so that the loop of `map_into`, which is proved by hand, has nothing
+// else to do. Its price is that the slices are counted here, even if `judge` has counted them.
 fn begin(file: &[u8], stream: StreamNumber, limit: Limit, room: usize) -> Begun
     ensures { λ r. ⌜ Begins (byteAt (now (file .entry))) (length (now (file .entry))) (stream .0) limit room r ⌝ }
 {
-    let plan = judge(file, stream, limit, room);
-    let answer = plan.answer;
-    let extent = plan.extent;
-    let walk = slices::begin();
-    let start = Cursor {
-        extent,
-        page: 0,
-        walk,
+    let judged = judge(file, stream, limit, room);
+    let Measured::Extent(x) = judged else {
+        let answer = Mapping::Refused(judged.why());
+        let start = start_of(nothing());
+        return Begun { answer, start };
     };
+    let count = count_slices(file, x);
+    let answer = Mapping::Mapped(Mapped {
+        slices: count,
+        length: x.bytes,
+    });
+    let start = start_of(x);
     Begun { answer, start }
 }
 
+// Where the writing of an extent's slices starts: before its first page.
+fn start_of(extent: Extent) -> Cursor
+    ensures { λ r. ⌜ Starts extent r ⌝ }
+{
+    let stretch = before_first();
+    let walk = slices::begin();
+    Cursor {
+        extent,
+        stretch,
+        walk,
+    }
+}
+
+// No bytes, of pages of the smallest size.
+fn nothing() -> Extent
+    ensures { λ r. ⌜ r ≡ noBytes ⌝ }
+{
+    Extent {
+        pagesize: Header::SMALLEST as usize,
+        first: 0,
+        bytes: 0,
+        pages: 0,
+    }
+}
+
+// Reads one stretch more. The last slice of the walk over it goes to the last place.
 fn step(file: &[u8], c: Cursor) -> Stepped
-    requires { ⌜ Ready c ⌝ }
-    ensures { λ r. ⌜ r ≡ stepped (byteAt (now (file .entry))) c ⌝ }
+    requires { ⌜ Ready (byteAt (now file)) (length (now file)) c ⌝ }
+    ensures { λ r. ⌜ Stepping (byteAt (now (file .entry))) c r ⌝ }
 {
     let extent = c.extent;
-    let walk = extend(file, extent, c.page, c.walk);
+    let before = c.stretch;
+    let ahead = next_stretch(
+        file,
+        extent.pagesize,
+        Pages::Stream(extent.first),
+        extent.pages,
+        before,
+    );
+    let walk = extend(extent, before.next, ahead, c.walk);
     let at = walk.count - 1;
     let slice = walk.slice;
-    let page = c.page + 1;
-    let next = Cursor { extent, page, walk };
+    let next = Cursor {
+        extent,
+        stretch: ahead,
+        walk,
+    };
     Stepped { at, slice, next }
 }

@@ -1,19 +1,22 @@
 // From a stream's pages to slices: the Rust's `PageList` (`src/msf/page_list.rs`), with no list kept. The pages are
-// walked one at a time, each with as many of its bytes as the length still wants: `push` and `truncate` in one step.
+// walked a stretch at a time, each with as many of its bytes as the length still wants: `push` and `truncate` in one
+// step.
 //
-// The walk is done twice: `count_slices` counts for the room, `write_slices` writes two lent stores. A caller with
-// another kind of store uses `begin` and `extend`.
+// `count_slices` counts, `write_slices` writes two lent stores. A caller with another kind of store uses `begin` and
+// `extend`.
 use extent::Extent;
 use paged::PageNumber;
 use paged::Pages;
-use paged::page_at;
-use paged::wanted_of;
+use paged::span_of;
+use runs::Stretch;
+use runs::before_first;
+use runs::next_stretch;
 ghost use mathlib.Core.Path.{_≡_};
 ghost use Prim.Native.Nat.{_-_, _<_, _≤_};
 ghost use lib.ListN.{length, set};
 ghost use Rattle.parse_buffer.specs.Bytes.{byteAt};
-ghost use Rattle.extent.specs.Inner.{Extends};
-ghost use Rattle.slices.specs.Inner.{slicesThrough, start, joins, onward, Near, Writing};
+ghost use Rattle.extent.specs.Inner.{Extends, EntriesLie};
+ghost use Rattle.slices.specs.Inner.{slicesThrough, start, joins, onward, Near, Ahead, Writing};
 
 // An offset and a size in the file.
 pub struct SourceSlice {
@@ -21,44 +24,50 @@ pub struct SourceSlice {
     pub size: usize,
 }
 
-// Where a walk stands: how many slices there are so far, the page before, and the last slice as far as it reaches.
+// Where a walk stands: how many slices there are so far, the page that would lengthen the last of them, and that slice as
+// far as it reaches.
 pub struct Walk {
     pub count: usize,
-    pub last: PageNumber,
+    pub after: usize,
     pub slice: SourceSlice,
 }
 
 // How many slices these bytes make.
 pub fn count_slices(file: &[u8], x: Extent) -> usize
     requires { ⌜ Extends x ⌝ }
+    requires { ⌜ EntriesLie (byteAt (now file)) (length (now file)) x ⌝ }
     ensures { λ r. ⌜ r ≡ length (slicesThrough (byteAt (now (file .entry))) x) ⌝ }
 {
     let mut walk = begin();
-    let mut i: usize = 0;
-    while i < x.pages {
-        walk = extend(file, x, i, walk);
-        i += 1;
+    let mut s = before_first();
+    while s.next < x.pages {
+        let i = s.next;
+        s = next_stretch(file, x.pagesize, Pages::Stream(x.first), x.pages, s);
+        walk = extend(x, i, s, walk);
     }
     walk.count
 }
 
-// The slices, from the front of the two stores. The caller guarantees room.
-pub fn write_slices(file: &[u8], x: Extent, offsets: &mut [u64], sizes: &mut [u64])
+// Writes the slices to the front of the two stores, and returns how many there are. The caller guarantees room.
+pub fn write_slices(file: &[u8], x: Extent, offsets: &mut [u64], sizes: &mut [u64]) -> usize
     requires { ⌜ Extends x ⌝ }
+    requires { ⌜ EntriesLie (byteAt (now file)) (length (now file)) x ⌝ }
     requires { ⌜ length (slicesThrough (byteAt (now file)) x) ≤ length (now offsets) ⌝ }
     requires { ⌜ length (slicesThrough (byteAt (now file)) x) ≤ length (now sizes) ⌝ }
     ensures { λ r. ⌜
-        Writing (slicesThrough (byteAt (now (file .entry))) x)
+        Writing (slicesThrough (byteAt (now (file .entry))) x) r
         (now (offsets .entry)) (now (sizes .entry)) (now (offsets .exit)) (now (sizes .exit))
         ⌝ }
 {
     let mut walk = begin();
-    let mut i: usize = 0;
-    while i < x.pages {
-        walk = extend(file, x, i, walk);
+    let mut s = before_first();
+    while s.next < x.pages {
+        let i = s.next;
+        s = next_stretch(file, x.pagesize, Pages::Stream(x.first), x.pages, s);
+        walk = extend(x, i, s, walk);
         put(offsets, sizes, walk);
-        i += 1;
     }
+    walk.count
 }
 
 // A walk over no page yet.
@@ -67,50 +76,50 @@ pub fn begin() -> Walk
 {
     Walk {
         count: 0,
-        last: PageNumber(0),
+        after: 0,
         slice: SourceSlice { offset: 0, size: 0 },
     }
 }
 
-// The walk over page i too.
-pub fn extend(file: &[u8], x: Extent, i: usize, walk: Walk) -> Walk
+// The walk over a stretch of pages too, from page i on.
+pub fn extend(x: Extent, i: usize, s: Stretch, walk: Walk) -> Walk
     requires { ⌜ Extends x ⌝ }
-    requires { ⌜ i < x .pages ⌝ }
+    requires { ⌜ Ahead x i s ⌝ }
     requires { ⌜ Near (x .pagesize) i walk ⌝ }
-    ensures { λ r. ⌜ r ≡ onward (byteAt (now (file .entry))) x i walk ⌝ }
+    ensures { λ r. ⌜ r ≡ onward x i s walk ⌝ }
 {
-    let size = x.pagesize;
-    let page = page_at(file, size, Pages::Stream(x.first), i);
-    let more = wanted_of(size, x.bytes, i);
+    let page = s.page;
+    let more = span_of(x.pagesize, x.bytes, i, s.pages);
+    let after = page.0 as usize + s.pages;
     let slice = walk.slice;
-    if follows(walk.count, walk.last, page) {
-        let longer = slice.size + more;
+    if follows(walk.count, walk.after, page) {
+        let size = slice.size + more;
         return Walk {
             count: walk.count,
-            last: page,
+            after,
             slice: SourceSlice {
                 offset: slice.offset,
-                size: longer,
+                size,
             },
         };
     }
-    let offset = page.0 as u64 * size as u64;
+    let offset = page.0 as u64 * x.pagesize as u64;
     let count = walk.count + 1;
     Walk {
         count,
-        last: page,
+        after,
         slice: SourceSlice { offset, size: more },
     }
 }
 
-// Whether a page is one above the page before it.
-fn follows(count: usize, last: PageNumber, page: PageNumber) -> bool
-    ensures { λ r. ⌜ r ≡ joins count (last .0) (page .0) ⌝ }
+// Whether a page lengthens the last slice.
+fn follows(count: usize, after: usize, page: PageNumber) -> bool
+    ensures { λ r. ⌜ r ≡ joins count after (page .0) ⌝ }
 {
     if count == 0 {
         return false;
     }
-    page.0 as u64 == last.0 as u64 + 1
+    page.0 as usize == after
 }
 
 // The last slice, as far as it reaches, in its place.

@@ -4,7 +4,7 @@ use mathlib.Core.Path.{_≡_, refl, sym, _∙_, ap}
 use mathlib.Core.Bool.{false}
 use Prim.Native.Nat.{ℕ, _+_, _-_, _^_, min, _≤_, _<_}
 use native.Mathlib.Omega.{arith}
-use borrow.Author.Tests.{le-leb, lt-leb, leb-true, not-true}
+use borrow.Author.Tests.{le-leb, lt-leb, leb-true, ltb-true, not-true}
 use lib.Dec.{eqb}
 use Rattle.outcome.specs.Outcome.{ok, refused, _>>=_, _>>_, require}
 use Rattle.outcome.specs.Refusal as paper
@@ -13,14 +13,16 @@ use Rattle.outcome.proofs.EachLaws.{refuses-each}
 use Rattle.parse_buffer.specs.Bytes.{File}
 use Rattle.paged.specs.PageSize.{PageSize, need}
 use Rattle.paged.specs.Pages.{directoryWord}
-use Rattle.paged.specs.Checks.{checkPages, checkedIn, whyChecked}
+use Rattle.paged.specs.Checks.{checkPages}
+use Rattle.runs.specs.Inner.{checkedIn, whyChecked, Lying}
 use Rattle.paged.specs.declared.refusal.Refusal.{Refusal}
 use Rattle.paged.specs.declared.refusal.Refusal.the-variants.{ShortData}
-use Rattle.paged.specs.declared.pages.Checked.{Checked}
-use Rattle.paged.specs.declared.pages.Checked.the-variants as checked
+use Rattle.paged.specs.declared.pages.Pages.the-variants.{Stream}
+use Rattle.runs.specs.declared.Checked.{Checked}
+use Rattle.runs.specs.declared.Checked.the-variants as checked
 use Rattle.header.specs.Header.{words}
 use Rattle.directory.specs.Directory.{reached}
-use Rattle.directory.proofs.DirectoryLaws.{reached-at}
+use Rattle.directory.proofs.DirectoryLaws.{reached-at, reached-lies}
 use Rattle.stream.specs.Stream.{absent, sizeAt, pagesOf, firstOf, ownPage, ownPages, present, skippedTo, found}
 use Rattle.stream.specs.Inner.{presenceIn, soughtIn, whyPresence, Before, Sizing, Skipped, Finding}
 use Rattle.stream.proofs.StreamLaws.{present-reached}
@@ -29,6 +31,25 @@ use Rattle.stream.specs.declared.Present.{Present}
 use Rattle.stream.specs.declared.Presence.{Presence}
 use Rattle.stream.specs.declared.Presence.the-variants as presence
 use Rattle.stream.specs.declared.Sought.the-variants as sought
+
+-- ---- what a stream that is present is known to be
+module _ (f : File) (len k : ℕ) where
+  pub record Present-at (x : Present) : Type 0 where
+    pub count : x .count ≡ directoryWord f (x .header .pagesize) 0
+    pub below : k < x .count
+    pub size : x .size ≡ sizeAt f (x .header .pagesize) k
+    pub present : eqb (x .size) absent ≡ false
+
+  pub present-at : {x : Present} → present f len k ≡ ok x → Present-at x
+  unfolding present
+  present-at e =
+      came-by _ _ e λ h d e₁.
+      came _ _ e₁ λ _ _ e₂.
+      came _ _ e₂ λ _ b e₃.
+      came _ _ e₃ λ _ _ e₄.
+      came _ _ e₄ λ _ a e₅.
+      rw (← ok-is e₅)
+      (record { count = refl; below = ltb-true _ _ (passed _ _ b); size = refl; present = not-true _ (passed _ _ a) })
 
 -- ---- the sizes
 module _ {f : File} {len k : ℕ} {r : Presence} (p : Sizing f len k r) where
@@ -50,6 +71,11 @@ module _ {f : File} {len k : ℕ} {r : Presence} (p : Sizing f len k r) where
       pub no-sizes : w < 1 + x .count → Finding f len k (sought.Refused ShortData)
       unfolding skippedTo found soughtIn require _>>=_ _>>_
       no-sizes l = record { answer = rw (present-is, ← words-are, lt-leb (1 + x .count) w l) }
+
+      pub sizes-lie : 1 + x .count ≤ w → Lying f len (x .header .pagesize) (Stream 1) k
+      sizes-lie l =
+          let below = present-at f len k present-is .below in
+          reached-lies f len 1 k (present-reached f len k present-is) (rw (← words-are) (omega arith))
 
       pub skipped : {b : ℕ} → 1 + x .count ≤ w → Before f (x .header .pagesize) k b → Skipped f len k x b
       skipped l before = record { is = present-is; sizes = rw (← words-are) l; pages = before }
@@ -78,6 +104,10 @@ module _ {f : File} {len k : ℕ} {x : Present} {b : ℕ} (s : Skipped f len k x
         rw (s .is, le-leb (1 + x .count) (words (x .header)) (s .sizes), ← s .pages .is, ← words-are, le-leb (1 + x .count + b) w l)
 
     module _ {n : ℕ} (pages : n ≡ need (x .header .pagesize) (x .size)) {m : ℕ} (entries : m ≡ min n (w - (1 + x .count + b))) where
+      pub entries-lie : Lying f len (x .header .pagesize) (Stream (1 + x .count + b)) m
+      entries-lie =
+          reached-lies f len (1 + x .count + b) m (present-reached f len k (s .is)) (rw (← words-are) (omega arith))
+
       pub entries-fit : x .header .directory < 2 ^ 32 → 1 + x .count + b + m ≤ 2 ^ 32
       entries-fit h = omega (arith, words-are)
 
@@ -165,23 +195,14 @@ found-at f len k {x} e =
       checked = rw (← same) (rw all at c);
     }
 
+-- so they lie in the file
+pub found-lies : (f : File) (len k : ℕ) {x : Found} → found f len k ≡ ok x → Lying f len (x .header .pagesize) (Stream (x .first)) (ownPages x)
+found-lies f len k {x} e =
+    let at = found-at f len k e in
+    reached-lies f len (x .first) (ownPages x) (at .reached) (at .inside)
+
 -- its entries begin where the count, the sizes and the pages of the streams before it end, and are as many as its size says
 module _ (f : File) (len k : ℕ) where
-  pub record Present-at (x : Present) : Type 0 where
-    pub count : x .count ≡ directoryWord f (x .header .pagesize) 0
-    pub size : x .size ≡ sizeAt f (x .header .pagesize) k
-    pub present : eqb (x .size) absent ≡ false
-
-  pub present-at : {x : Present} → present f len k ≡ ok x → Present-at x
-  unfolding present
-  present-at e =
-      came-by _ _ e λ h d e₁.
-      came _ _ e₁ λ _ _ e₂.
-      came _ _ e₂ λ _ _ e₃.
-      came _ _ e₃ λ _ _ e₄.
-      came _ _ e₄ λ _ a e₅.
-      rw (← ok-is e₅) (record { count = refl; size = refl; present = not-true _ (passed _ _ a) })
-
   pub record First-at (x : Found) : Type 0 where
     pub first : x .first ≡ firstOf f (x .header .pagesize) (directoryWord f (x .header .pagesize) 0) k
     pub pages : ownPages x ≡ pagesOf (x .header .pagesize) (sizeAt f (x .header .pagesize) k)
@@ -192,7 +213,7 @@ module _ (f : File) (len k : ℕ) where
       came-by _ _ e λ y s e₁.
       came _ _ e₁ λ _ _ e₂.
       came _ _ e₂ λ _ _ e₃.
-      let z = present-at s in
+      let z = present-at f len k s in
       rw (← ok-is e₃)
       (record {
         first = rw (z .count) refl;

@@ -1,14 +1,14 @@
 -- What finding a stream promises, and its parts.
 use mathlib.Core.Path.{_≡_}
-use Prim.Native.Nat.{ℕ, _+_, _*_, _^_, _≤_}
+use Prim.Native.Nat.{ℕ, zero, suc, _+_, _*_, _^_, _≤_}
 use Rattle.outcome.specs.Outcome.{Outcome, ok, refused}
 use Rattle.outcome.specs.Refusal as paper
-use Rattle.parse_buffer.specs.Bytes.{File}
+use Rattle.parse_buffer.specs.Bytes.{File, word}
 use Rattle.paged.specs.Refusal.{refusalIn}
 use Rattle.paged.specs.declared.refusal.Refusal.{Refusal}
 use Rattle.paged.specs.declared.refusal.Refusal.the-variants.{ShortData}
 use Rattle.header.specs.Header.{words}
-use Rattle.stream.specs.Stream.{pagesBefore, present, found}
+use Rattle.stream.specs.Stream.{pagesOf, pagesBefore, present, found}
 use Rattle.stream.specs.declared.Found.{Found}
 use Rattle.stream.specs.declared.Present.{Present}
 use Rattle.stream.specs.declared.Sought.{Sought}
@@ -44,6 +44,15 @@ pub record Sizing (f : File) (len k : ℕ) (r : Presence) : Type 0 where
 pub record Before (f : File) (p k r : ℕ) : Type 0 where
   pub is : r ≡ pagesBefore f p k
   pub small : r ≤ k * 2 ^ 24
+
+-- the pages of streams whose sizes are the n words at a place
+unfoldable pub pagesIn : File → ℕ → ℕ → ℕ → ℕ
+pagesIn f p at zero = 0
+pagesIn f p at (suc n) = pagesIn f p at n + pagesOf p (word f (at + 4 * n))
+
+pub record Within (f : File) (p at n r : ℕ) : Type 0 where
+  pub is : r ≡ pagesIn f p at n
+  pub small : r ≤ n * 2 ^ 24
 
 -- a stream that is present, in a directory that holds all sizes, and the pages of the streams before it
 pub record Skipped (f : File) (len k : ℕ) (x : Present) (before : ℕ) : Type 0 where

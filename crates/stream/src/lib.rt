@@ -2,21 +2,25 @@
 use directory::reach;
 use header::Headed;
 use header::Header;
-use paged::Checked;
 use paged::Pages;
 use paged::Refusal;
 use paged::StreamNumber;
-use paged::check_pages;
 use paged::directory_word;
 use paged::least;
 use paged::pages_needed_to_store;
+use parse_buffer::word_in;
+use runs::Checked;
+use runs::check_pages;
+use runs::run_of;
 ghost use mathlib.Core.Path.{_≡_};
-ghost use Prim.Native.Nat.{_^_, _<_};
+ghost use Prim.Native.Nat.{_+_, _*_, _^_, _<_, _≤_};
 ghost use lib.ListN.{length};
 ghost use Rattle.parse_buffer.specs.Bytes.{byteAt};
 ghost use Rattle.paged.specs.PageSize.{PageSize};
+ghost use Rattle.paged.specs.declared.pages.Pages.the-variants.{Stream};
+ghost use Rattle.runs.specs.Inner.{Lying};
 ghost use Rattle.stream.specs.Stream.{pagesOf};
-ghost use Rattle.stream.specs.Inner.{whyPresence, whySought, Before, Sizing, Skipped, Finding};
+ghost use Rattle.stream.specs.Inner.{whyPresence, whySought, Before, Within, Sizing, Skipped, Finding};
 
 // The size of a stream that is not there.
 pub const ABSENT: u32 = 0xffffffff;
@@ -149,20 +153,38 @@ fn size_of(file: &[u8], stream: StreamNumber) -> Presence
     })
 }
 
-// How many page numbers the streams before k have.
+// How many page numbers the streams before k have. Their sizes are words of the directory from word 1 on.
 pub fn pages_before(file: &[u8], size: usize, k: usize) -> usize
     requires { ⌜ PageSize size ⌝ }
     requires { ⌜ k < 2 ^ 32 ⌝ }
+    requires { ⌜ Lying (byteAt (now file)) (length (now file)) size (Stream 1) k ⌝ }
     ensures { λ r. ⌜ Before (byteAt (now (file .entry))) size k r ⌝ }
 {
     let mut i: usize = 0;
     let mut before: usize = 0;
     while i < k {
-        let bytes = directory_word(file, size, 1 + i);
-        before += pages_of(size, bytes);
-        i += 1;
+        let run = run_of(file, size, Pages::Stream(1), i, k - i);
+        before += pages_in(file, size, run.at, run.words);
+        i += run.words;
     }
     before
+}
+
+// How many page numbers the streams have whose n sizes stand here.
+fn pages_in(file: &[u8], size: usize, at: usize, n: usize) -> usize
+    requires { ⌜ PageSize size ⌝ }
+    requires { ⌜ n ≤ 2 ^ 32 ⌝ }
+    requires { ⌜ at + 4 * n ≤ length (now file) ⌝ }
+    ensures { λ r. ⌜ Within (byteAt (now (file .entry))) size at n r ⌝ }
+{
+    let mut j: usize = 0;
+    let mut pages: usize = 0;
+    while j < n {
+        let bytes = word_in(file, at + 4 * j);
+        pages += pages_of(size, bytes);
+        j += 1;
+    }
+    pages
 }
 
 // The pages of a stream of this size: none where it is absent.

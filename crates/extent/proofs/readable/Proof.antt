@@ -1,7 +1,7 @@
 -- What `measure` refuses is refused; the check is over the very pages of the extent that it answered.
 -- Assumes nothing.
 use borrow.Author.Needs.{needs}
-use Rattle.extent.proofs.ExtentLaws.{reading-cases, measured-size, measured-small}
+use Rattle.extent.proofs.ExtentLaws.{reading-cases, measured-size, measured-small, measured-whole, measured-lie}
 use Rattle.extent.proofs.readable.Statement.{statement}
 use Rattle.extent.proofs.readable.Tie as tie
 
@@ -18,7 +18,7 @@ returns : tie.Need-returns
 returns c = search reading-cases
 
 lies-in-file-requires : tie.Need-lies-in-file-requires
-lies-in-file-requires c κs = (search measured-size, search measured-small)
+lies-in-file-requires c κs = (search measured-size, (search measured-small, (search measured-whole, search measured-lie)))
 
 enum-told-2 : tie.Need-enum-told-2
 enum-told-2 c = search needs

@@ -1,7 +1,7 @@
 -- The count and all sizes are there, so finding goes on from the carried count as it would afresh (`show-skipped`), and
 -- no refusal after this is 5. Assumes a file that is listed, a stream below the count, and the carried count.
 use borrow.Author.Needs.{needs}
-use Rattle.listing_line.proofs.LineLaws.{show-cases, show-skipped, show-held, own-size}
+use Rattle.listing_line.proofs.LineLaws.{show-cases, show-skipped, show-held, own-size, show-lie}
 use Rattle.listing_whole.proofs.WholeLaws.{whole-size}
 use Rattle.listing_line.proofs.show.Statement.{statement}
 use Rattle.listing_line.proofs.show.Tie as tie
@@ -40,7 +40,7 @@ first-bytes-requires : tie.Need-first-bytes-requires
 first-bytes-requires c κs = search (show-held, needs)
 
 count-slices-requires : tie.Need-count-slices-requires
-count-slices-requires c κs = search needs
+count-slices-requires c κs = (search needs, search (show-lie, needs))
 
 returns-3 : tie.Need-returns-3
 returns-3 c = search show-cases

@@ -1,10 +1,9 @@
 -- `slice_store::map_into` meets its contract: a walk of its MIR, by hand, in the way of our patterns for lent slices of structs (`fill`). `begin` is called once, then the loop calls `step` and stores one entry a turn.
--- Of the two all that is known is that they meet their contracts. The borrow of the store is opened once, before `begin` is called, and closed once, after the loop; in between the row of entries is the walk's own, `zs i` after i pages.
--- The loop's variant is i, with what is known of it: i ≤ pages, and that the cursor after i pages is a `Cursor`.
+-- Of the two all that is known is that they meet their contracts. The borrow of the store is opened once, before `begin` is called, and closed once, after the loop; in between the row of entries is the walk's own, `zs c` at the cursor c.
+-- The loop's variant is the cursor, with what is known of it: that the loop may reach it (`Reached`), and that it is a `Cursor`.
 -- Assumes nothing.
-use mathlib.Core.Path.{_≡_, refl, sym, _∙_, ap, subst}
-use Prim.Native.Nat.{ℕ, suc, _-_, _≤_, _<_, _^_, _*_, zero-le}
-use native.Mathlib.Nat.{eq-or-lt-of-le}
+use mathlib.Core.Path.{_≡_, refl, sym, ap, subst}
+use Prim.Native.Nat.{ℕ, _-_, _≤_, _<_, _^_, _*_}
 use mathlib.Core.Bool.{Bool}
 use mathlib.Core.Logic.{⊎-elim}
 use borrow.Author.Tests.{lt-ltb, le-ltb}
@@ -51,6 +50,7 @@ use denote.Triple.Spec.{Meets, tripleOf}
 use denote.Triple.Table.{entered, cited}
 use denote.Triple.Walked.{says, Stays, stay-slice, stay-none-slice, stay-none, walkOf, goes-slice, goes-none-slice, goes-none, Walks, ends-at, walked, walk-meets}
 use denote.Exit.{yes}
+use Rattle.outcome.proofs.OutcomeLaws.{below-or}
 use Rattle.parse_buffer.specs.Bytes.{File, byteAt}
 use Rattle.paged.specs.declared.refusal.StreamNumber.{StreamNumber}
 use Rattle.paged.proofs.refusal.StreamNumber as N
@@ -59,17 +59,18 @@ use Rattle.slices.specs.declared.SourceSlice.{SourceSlice}
 use Rattle.slices.proofs.SourceSlice as T
 use Rattle.slices.proofs.SourceSlice.Laws as T′
 use Rattle.extent.specs.declared.limit.Limit.{Limit}
+use Rattle.extent.specs.declared.Extent.{Extent}
 use Rattle.extent.proofs.limit.Limit as L
 use Rattle.extent.proofs.limit.Limit.Laws as L′
 use Rattle.mapping.specs.declared.Mapping.{Mapping}
 use Rattle.mapping.proofs.Mapping as E
 use Rattle.mapping.proofs.Mapping.Laws as E′
-use Rattle.slice_store.specs.Inner.{Begins, stepped}
+use Rattle.slice_store.specs.Inner.{Begins, Stepping}
 use Rattle.slice_store.specs.Promises.{MapsInto}
 use Rattle.slice_store.specs.declared.Begun.{Begun}
 use Rattle.slice_store.specs.declared.Cursor.{Cursor}
 use Rattle.slice_store.specs.declared.Stepped.{Stepped}
-use Rattle.slice_store.proofs.StepLaws.{cursorAt, storeAt, cursor-start, cursor-next, store-start, store-next, store-length, ready, place-inside, maps-into}
+use Rattle.slice_store.proofs.StepLaws.{asked-for, Reached, storeAt, store-length, start-reached, store-start, ready, next-reached, store-next, place-inside, next-nearer, maps-into}
 use Rattle.slice_store.proofs.Begun as B
 use Rattle.slice_store.proofs.Begun.Laws as B′
 use Rattle.slice_store.proofs.Cursor as K
@@ -100,9 +101,6 @@ stayed = (stay-none-slice (0 ∷ []) tt (plain (λ _. u8)) yes, (stay-none (λ _
 -- an entry's place fits a usize, since all the entries take at most isize::MAX bytes
 place-fits : (i n : ℕ) → i < n → n * 16 < 2 ^ 63 → i * 16 < 2 ^ 64
 place-fits i n l r = omega arith
-
-nearer : (n i : ℕ) → i < n → n - suc i < n - i
-nearer n i l = omega arith
 
 -- the machine values, and the relation of each type to its own. A `Begun` holds an enum, so its value is not `B′.lowered` by computation
 abbrev bval : Begun → Val
@@ -219,69 +217,66 @@ module _ {M : Type 1} (𝓤 : URA M) (H : Heap 𝓤) (A : Atoms 𝓤) (W : Given
 
     -- ---- once it has answered
     module _ (r : Begun) (begun : Beginning r) (answered : Made (r .answer)) where
-      abbrev pages : ℕ
-      pages = begun .plan .extent .pages
+      -- the bytes whose slices are written, and the store at a cursor
+      abbrev extent : Extent
+      extent = asked-for f (length (x .now)) (stream .0) limit ys
 
-      -- after i pages: the cursor, and the store
-      abbrev cur : ℕ → Cursor
-      cur i = cursorAt f (begun .plan) i
+      abbrev zs : Cursor → List SourceSlice
+      zs c = storeAt f extent ys c
 
-      abbrev zs : ℕ → List SourceSlice
-      zs i = storeAt f (begun .plan) ys i
-
-      exits : (i : ℕ) → i ≡ pages
-          → ent 𝓤 (⋆ 𝓤 H A (‵ (fobs γ (codedHoleys R .code (heres R (zs i)))) ∷ ‵ (fbor κ′ (Held R (length (zs i)) b o γ)) ∷ ‵ (flft κ′ q′) ∷ ‵ Bytes ∷ ‵ (flft κ q) ∷ [])) (Post (mval (r .answer)))
-      exits i e =
-          qed W (‵ (fobs γ (codedHoleys R .code (heres R (zs i)))) ∷ ‵ (fbor κ′ (Held R (length (zs i)) b o γ)) ∷ ‵ (flft κ′ q′) ∷ ‵ Bytes ∷ ‵ (flft κ q) ∷ []) ∵
-          suffices ! _ (ends-at 𝓤 H A map-into.ended stayed (map-into.clauses 𝓤 H A mem run) W (((κ, (κ′, tt)), (q, (q′, tt)), tt, a, vals), tt) (mval (r .answer)) (r .answer) (tt, (tt, (tt, (zs i, tt)))) (tt, (tt, (tt, (same, tt))))) $ says ! mapped $
+      exits : (c : Cursor) → Reached f extent c → c .extent .pages ≤ c .stretch .next
+          → ent 𝓤 (⋆ 𝓤 H A (‵ (fobs γ (codedHoleys R .code (heres R (zs c)))) ∷ ‵ (fbor κ′ (Held R (length (zs c)) b o γ)) ∷ ‵ (flft κ′ q′) ∷ ‵ Bytes ∷ ‵ (flft κ q) ∷ [])) (Post (mval (r .answer)))
+      exits c reached past =
+          qed W (‵ (fobs γ (codedHoleys R .code (heres R (zs c)))) ∷ ‵ (fbor κ′ (Held R (length (zs c)) b o γ)) ∷ ‵ (flft κ′ q′) ∷ ‵ Bytes ∷ ‵ (flft κ q) ∷ []) ∵
+          suffices ! _ (ends-at 𝓤 H A map-into.ended stayed (map-into.clauses 𝓤 H A mem run) W (((κ, (κ′, tt)), (q, (q′, tt)), tt, a, vals), tt) (mval (r .answer)) (r .answer) (tt, (tt, (tt, (zs c, tt)))) (tt, (tt, (tt, (same, tt))))) $ says ! mapped $
           nothing ! $ move ! (3 ∷ 0 ∷ []) $ join ! $ move ! (4 ∷ 0 ∷ []) $ join ! $ frame ! $
           -- [obs; the borrow; what the file owns]: what each parameter owns, from the last to the first
-          fjoin ! $ pureI ! (at-slice R (x′ (zs i)) (v′ ∷ [])) (tt, (tt, tt)) (ap (λ (m : ℕ). sliceVal (b, o) m ∷ []) (sym same), subst (Room R) (sym same) room′) $ fjoin ! $
+          fjoin ! $ pureI ! (at-slice R (x′ (zs c)) (v′ ∷ [])) (tt, (tt, tt)) (ap (λ (m : ℕ). sliceVal (b, o) m ∷ []) (sym same), subst (Room R) (sym same) room′) $ fjoin ! $
           nothing ! $ move ! (1 ∷ 0 ∷ []) $ fjoin ! $ owned ! L.the-row (Is L.the-row) (EL.makes L.the-type L′.the-plain 𝓤 H A) limit _ limit-is $ fjoin ! $
           owned ! N.the-row (Is N.the-row) (LL.makes N.the-type N′.the-plain 𝓤 H A) stream _ stream-is $ fjoin ! $ move ! (1 ∷ 0 ∷ []) $ fjoin ! $ frame ! $
           owned ! E.the-row (Is E.the-row) (EL.makes E.the-type E′.the-plain 𝓤 H A) (r .answer) _ answered $ done !
         where
-          same : length (zs i) ≡ length ys
-          same = store-length f (begun .plan) ys i
+          same : length (zs c) ≡ length ys
+          same = store-length f extent ys c
 
-          mapped : MapsInto f (length (x .now)) (stream .0) limit ys (r .answer) (zs i)
-          mapped = subst (λ (n : ℕ). MapsInto f (length (x .now)) (stream .0) limit ys (r .answer) (zs n)) (sym e) (maps-into begun)
+          mapped : MapsInto f (length (x .now)) (stream .0) limit ys (r .answer) (zs c)
+          mapped = maps-into f (length (x .now)) (stream .0) limit ys begun reached past
 
       -- ---- the call of `step`
-      -- what it is passed, at the cursor after i pages
-      abbrev to-step : ℕ → Step 𝓤 H A mem run .Ghost
-      to-step i = (((κ, tt), (q, tt), tt, (x, (cur i, tt)), (v ∷ [], (K′.lowered (cur i) ∷ [], tt))), tt)
+      -- what it is passed, at a cursor
+      abbrev to-step : Cursor → Step 𝓤 H A mem run .Ghost
+      to-step c = (((κ, tt), (q, tt), tt, (x, (c, tt)), (v ∷ [], (K′.lowered c ∷ [], tt))), tt)
 
-      gives-step : (i : ℕ) → i < pages → Good (cur i) → ent 𝓤 (sep 𝓤 (sem 𝓤 H A Bytes) (A .lft κ q)) (sep 𝓤 (Step 𝓤 H A mem run .pre (to-step i)) (sem 𝓤 H A Bytes))
-      gives-step i less good =
+      gives-step : (c : Cursor) → Reached f extent c → c .stretch .next < c .extent .pages → Good c → ent 𝓤 (sep 𝓤 (sem 𝓤 H A Bytes) (A .lft κ q)) (sep 𝓤 (Step 𝓤 H A mem run .pre (to-step c)) (sem 𝓤 H A Bytes))
+      gives-step c reached less good =
           qed W (‵ Bytes ∷ ‵ (flft κ q) ∷ []) ∵
           use1 W (‵ Bytes ⊛ ‵ Bytes) (shr-slice-copy 𝓤 H A W (named 0) κ u8 .twice x (v ∷ [])) $ split ! $
-          nothing ! $ owned ! K.the-row (Is K.the-row) (LL.makes K.the-type K′.the-plain 𝓤 H A) (cur i) _ good $ fjoin ! $ move ! (1 ∷ 0 ∷ []) $ fjoin ! $
+          nothing ! $ owned ! K.the-row (Is K.the-row) (LL.makes K.the-type K′.the-plain 𝓤 H A) c _ good $ fjoin ! $ move ! (1 ∷ 0 ∷ []) $ fjoin ! $
           nothing ! $ move ! (3 ∷ 0 ∷ []) $ join ! $ move ! (0 ∷ 1 ∷ []) $
-          use2 W (raw (Step 𝓤 H A mem run .pre (to-step i))) asked $ frame ! $ done !
+          use2 W (raw (Step 𝓤 H A mem run .pre (to-step c))) asked $ frame ! $ done !
         where
-          asked : ent 𝓤 (onEntry 𝓤 H A step.signature (κ, tt) (q, tt) (x, (cur i, tt)) (v ∷ [], (K′.lowered (cur i) ∷ [], tt))) (Step 𝓤 H A mem run .pre (to-step i))
-          asked = qed W ((‵ (flft κ q) ⊛ ‵ ftrue) ∷ ‵ (owns (ShrSlice (named 0) κ u8 ∷ K.the-row ∷ []) (x, (cur i, tt)) (v ∷ [], (K′.lowered (cur i) ∷ [], tt))) ∷ []) ∵ says ! (ready f (begun .plan) (begun .plans) i less) $ frame ! $ done !
+          asked : ent 𝓤 (onEntry 𝓤 H A step.signature (κ, tt) (q, tt) (x, (c, tt)) (v ∷ [], (K′.lowered c ∷ [], tt))) (Step 𝓤 H A mem run .pre (to-step c))
+          asked = qed W ((‵ (flft κ q) ⊛ ‵ ftrue) ∷ ‵ (owns (ShrSlice (named 0) κ u8 ∷ K.the-row ∷ []) (x, (c, tt)) (v ∷ [], (K′.lowered c ∷ [], tt))) ∷ []) ∵ says ! (ready (begun .writable) reached less) $ frame ! $ done !
 
-      said-step : (i : ℕ) (t : Stepped) → ent 𝓤 (ensured 𝓤 H A step.ended (step.clauses 𝓤 H A mem run) (κ, tt) (x, (cur i, tt)) tt t) (fact 𝓤 (t ≡ stepped f (cur i)))
-      said-step i t = exE 𝓤 _ (λ ws. snd∗ 𝓤 (sem 𝓤 H A (lasts step.ended (κ, tt) (x, (cur i, tt)) ws)) (fact 𝓤 (t ≡ stepped f (cur i))))
+      said-step : (c : Cursor) (t : Stepped) → ent 𝓤 (ensured 𝓤 H A step.ended (step.clauses 𝓤 H A mem run) (κ, tt) (x, (c, tt)) tt t) (fact 𝓤 (Stepping f c t))
+      said-step c t = exE 𝓤 _ (λ ws. snd∗ 𝓤 (sem 𝓤 H A (lasts step.ended (κ, tt) (x, (c, tt)) ws)) (fact 𝓤 (Stepping f c t)))
 
       -- ---- the loop
       abbrev Upto : Type 0
-      Upto = (i : ℕ) × ((i ≤ pages) × Good (cur i))
+      Upto = (c : Cursor) × (Reached f extent c × Good c)
 
       abbrev Nearer : Upto → Upto → Type 0
-      Nearer j i = pages - j .0 < pages - i .0
+      Nearer j i = extent .pages - j .0 .stretch .next < extent .pages - i .0 .stretch .next
 
       Nearer-wf : WellFounded Nearer
-      Nearer-wf = InvImage·wf (λ (i : Upto). pages - i .0) (Nat·lt-wfRel .wf)
+      Nearer-wf = InvImage·wf (λ (i : Upto). extent .pages - i .0 .stretch .next) (Nat·lt-wfRel .wf)
 
       -- the invariant
       abbrev At : Upto → List (Item 𝓤)
       At i =
           Holding (zs (i .0))
           (‵ (froom tyPtr l₁₁ 0) ∷ ‵ (fdies tyPtr l₁₁) ∷ ‵ (froom word l₁₀ 0) ∷ ‵ (fdies word l₁₀) ∷ ‵ (froom tyBool l₉ 0) ∷ ‵ (fdies tyBool l₉) ∷ ‵ (fat fullShare word l₈ 0 (vint w64 (length ys))) ∷ ‵ (fdies word l₈)
-          ∷ ‵ (froom S′.mir l₇ 0) ∷ ‵ (fdies S′.mir l₇) ∷ ‵ (fat fullShare K′.mir l₆ 0 (K′.lowered (cur (i .0)))) ∷ ‵ (fdies K′.mir l₆) ∷ ‵ (fat fullShare B′.mir l₅ 0 (bval r)) ∷ ‵ (fdies B′.mir l₅) ∷ Passed)
+          ∷ ‵ (froom S′.mir l₇ 0) ∷ ‵ (fdies S′.mir l₇) ∷ ‵ (fat fullShare K′.mir l₆ 0 (K′.lowered (i .0))) ∷ ‵ (fdies K′.mir l₆) ∷ ‵ (fat fullShare B′.mir l₅ 0 (bval r)) ∷ ‵ (fdies B′.mir l₅) ∷ Passed)
 
       module _ (𝓣 : Tables 𝓤 H) (known : Triple 𝓤 (𝓣 .C #step) (Step 𝓤 H A mem run)) where
         abbrev C : Calls 𝓤 H
@@ -293,75 +288,72 @@ module _ {M : Type 1} (𝓤 : URA M) (H : Heap 𝓤) (A : Atoms 𝓤) (W : Given
         abbrev Turned : Upto → Out → SProp 𝓤
         Turned i = afterTurn 𝓤 H (Below 𝓤 H A Nearer At i) (afterBlock 𝓤 H (afterSeq 𝓤 H (Wp 𝓤 H C Λ En mir.t-5 (atReturn 𝓤 H En Post)) (atReturn 𝓤 H En Post)))
 
-        -- a turn that takes one page more
-        more : (i : Upto) → i .0 < pages → Sq W (At i) (runs C Λ En mir.turn-1 (anyQ (Turned i)))
+        -- a turn that takes one stretch more
+        more : (i : Upto) → i .0 .stretch .next < i .0 .extent .pages → Sq W (At i) (runs C Λ En mir.turn-1 (anyQ (Turned i)))
         unfolding afterTurn
         more i less =
-            assigns ! (bin ! (load ! (from ! (fld ! refl (stop !))) (look-in ! 16 (sub ! 1 refl (whole !)))) (load ! (from ! (fld ! refl (fld ! refl (stop !)))) (look-in ! 16 (sub ! 3 refl (sub ! 0 refl (whole !))))) tt) (from ! (stop !)) (init ! 10 refl (tt, tt)) $
+            assigns ! (bin ! (load ! (from ! (fld ! refl (fld ! refl (stop !)))) (look-in ! 16 (sub ! 2 refl (sub ! 1 refl (whole !))))) (load ! (from ! (fld ! refl (fld ! refl (stop !)))) (look-in ! 16 (sub ! 3 refl (sub ! 0 refl (whole !))))) tt) (from ! (stop !)) (init ! 10 refl (tt, tt)) $
             rewrite ! 10 (λ (t : Bool). ‵ (fat fullShare tyBool l₉ 0 (vbool t))) (lt-ltb _ _ less) refl $ stays ! (load ! (from ! (stop !)) (look ! 10 refl)) $
             -- the call: what the file owns and its token go, and come back with the result
-            move ! (4 ∷ 5 ∷ []) $ use2 W (raw (Step 𝓤 H A mem run .pre (to-step (i .0))) ⊛ ‵ Bytes) (gives-step (i .0) less (i .1 .1)) $ split ! $
+            move ! (4 ∷ 5 ∷ []) $ use2 W (raw (Step 𝓤 H A mem run .pre (to-step (i .0))) ⊛ ‵ Bytes) (gives-step (i .0) (i .1 .0) less (i .1 .1)) $ split ! $
             calls-at ! (fmOf 𝓤 H (W .laws) 𝓣) (Step 𝓤 H A mem run) known (to-step (i .0)) (and-then ! (load ! (from ! (stop !)) (look ! 26 refl)) (and-then ! (load ! (from ! (stop !)) (look ! 16 refl)) (no-more !))) (λ u.
-            use1 W (later (some (λ (t : Stepped). ((‵ (flft κ q) ⊛ ‵ ftrue) ⊛ ‵ (S.the-row .own t (u ∷ []))) ⊛ raw (ensured 𝓤 H A step.ended (step.clauses 𝓤 H A mem run) (κ, tt) (x, (cur (i .0), tt)) tt t)))) (id⊢ 𝓤 _) $ await ! tt $ pick ! (λ t.
-            split ! $ move ! (1 ∷ []) $ use1 W (raw (fact 𝓤 (t ≡ next))) (said-step (i .0) t) $ heard ! (t ≡ next) (λ e. split ! $ move ! (1 ∷ []) $
+            use1 W (later (some (λ (t : Stepped). ((‵ (flft κ q) ⊛ ‵ ftrue) ⊛ ‵ (S.the-row .own t (u ∷ []))) ⊛ raw (ensured 𝓤 H A step.ended (step.clauses 𝓤 H A mem run) (κ, tt) (x, (i .0, tt)) tt t)))) (id⊢ 𝓤 _) $ await ! tt $ pick ! (λ t.
+            split ! $ move ! (1 ∷ []) $ use1 W (raw (fact 𝓤 (Stepping f (i .0) t))) (said-step (i .0) t) $ heard ! (Stepping f (i .0) t) (λ stepping. split ! $ move ! (1 ∷ []) $
             peeks ! S.the-row (Is S.the-row) (shows 𝓤 H A S.the-row) t (u ∷ []) (λ is.
             land ! (from ! (stop !)) (init ! 15 refl (LL.lawful S.the-type S′.the-laws 𝓤 H A W .typed t _ is .0)) $
-            rewrite ! 15 (λ (w : Val). ‵ (fat fullShare S′.mir l₇ 0 w)) (ap only (LL.tells S.the-type S′.the-laws t _ is) ∙ ap S′.lowered e) refl $
+            rewrite ! 15 (λ (w : Val). ‵ (fat fullShare S′.mir l₇ 0 w)) (ap only (LL.tells S.the-type S′.the-laws t _ is)) refl $
             drop ! $ split ! $ move ! (1 ∷ []) $ drop ! $ move ! (2 ∷ 3 ∷ 4 ∷ 5 ∷ 1 ∷ 0 ∷ []) $
             -- [the row; the open borrow; obs; auth; what the file owns; its token; _11; …; _0; …]: the entry is stored
-            assigns ! (bin ! (load ! (from ! (fld ! refl (stop !))) (look-in ! 14 (sub ! 0 refl (whole !)))) (lit ! tt) (record { fits = byte-fits })) (from ! (stop !)) (init ! 8 refl (tt, record { fits = byte-fits })) $
+            assigns ! (bin ! (load ! (from ! (fld ! refl (stop !))) (look-in ! 14 (sub ! 0 refl (whole !)))) (lit ! tt) (record { fits = byte-fits t stepping })) (from ! (stop !)) (init ! 8 refl (tt, record { fits = byte-fits t stepping })) $
             assigns ! (bin ! (load ! (from ! (fld ! refl (stop !))) (look-in ! 20 (sub ! 0 refl (whole !)))) (load ! (from ! (stop !)) (look ! 8 refl)) tt) (from ! (stop !)) (init ! 6 refl (tt, tt)) $
-            rewrite ! 6 (λ (p : ℕ). ‵ (fat fullShare tyPtr l₁₁ 0 (vptr b p))) (sym (place-is 16 o (next .at))) refl $
-            elem-out ! R (Is R) (shows 𝓤 H A R) (LL.vals T.the-type T′.the-laws) (LL.tells T.the-type T′.the-laws) fullShare (zs (i .0)) (next .at) blank b o within (λ _.
-            assigns ! (of-opd ! (load ! (from ! (fld ! refl (stop !))) (look-in ! 16 (sub ! 1 refl (whole !))))) (from ! (hop ! (look ! 8 refl) (stop !))) (store-raw ! 0 refl (LL.lawful T.the-type T′.the-laws 𝓤 H A W .typed (next .slice) _ (slice-is t u is e) .0)) $
-            move ! (1 ∷ []) $ drop ! $ owned ! R (Is R) (LL.makes T.the-type T′.the-plain 𝓤 H A) (next .slice) _ (slice-is t u is e) $ move ! (1 ∷ 0 ∷ []) $ elem-put ! R fullShare (zs (i .0)) (next .at) (next .slice) (T′.lowered (next .slice) ∷ []) b o within $
-            rewrite ! 0 (λ (l : List SourceSlice). ‵ (row R fullShare l b o)) (store-next f (begun .plan) (i .0) ys) refl $
+            rewrite ! 6 (λ (p : ℕ). ‵ (fat fullShare tyPtr l₁₁ 0 (vptr b p))) (sym (place-is 16 o (t .at))) refl $
+            elem-out ! R (Is R) (shows 𝓤 H A R) (LL.vals T.the-type T′.the-laws) (LL.tells T.the-type T′.the-laws) fullShare (zs (i .0)) (t .at) blank b o (within t stepping) (λ _.
+            assigns ! (of-opd ! (load ! (from ! (fld ! refl (stop !))) (look-in ! 16 (sub ! 1 refl (whole !))))) (from ! (hop ! (look ! 8 refl) (stop !))) (store-raw ! 0 refl (LL.lawful T.the-type T′.the-laws 𝓤 H A W .typed (t .slice) _ (slice-is t u is) .0)) $
+            move ! (1 ∷ []) $ drop ! $ owned ! R (Is R) (LL.makes T.the-type T′.the-plain 𝓤 H A) (t .slice) _ (slice-is t u is) $ move ! (1 ∷ 0 ∷ []) $ elem-put ! R fullShare (zs (i .0)) (t .at) (t .slice) (T′.lowered (t .slice) ∷ []) b o (within t stepping) $
+            rewrite ! 0 (λ (l : List SourceSlice). ‵ (row R fullShare l b o)) (store-next (begun .writable) (i .1 .0) less stepping ys) refl $
             -- the cursor moves on
-            assigns-last ! (of-opd ! (load ! (from ! (fld ! refl (stop !))) (look-in ! 14 (sub ! 2 refl (whole !))))) (from ! (stop !)) (store ! 16 refl (LL.lawful K.the-type K′.the-laws 𝓤 H A W .typed (next .next) _ (cursor-is t u is e) .0)) $
-            rewrite ! 16 (λ (c : Cursor). ‵ (fat fullShare K′.mir l₆ 0 (K′.lowered c))) (cursor-next f (begun .plan) (i .0)) refl $ forget ! 6 refl $ forget ! 8 refl $ forget ! 10 refl $ forget ! 14 refl $
-            again ! Nearer At i (suc (i .0), (less, subst Good (cursor-next f (begun .plan) (i .0)) (cursor-is t u is e))) (nearer pages (i .0) less))))))
+            assigns-last ! (of-opd ! (load ! (from ! (fld ! refl (stop !))) (look-in ! 14 (sub ! 2 refl (whole !))))) (from ! (stop !)) (store ! 16 refl (LL.lawful K.the-type K′.the-laws 𝓤 H A W .typed (t .next) _ (cursor-is t u is) .0)) $
+            forget ! 6 refl $ forget ! 8 refl $ forget ! 10 refl $ forget ! 14 refl $
+            again ! Nearer At i (t .next, (next-reached (begun .writable) (i .1 .0) less stepping, cursor-is t u is)) (next-nearer (begun .writable) (i .1 .0) less stepping))))))
           where
-            next : Stepped
-            next = stepped f (cur (i .0))
+            inside : (t : Stepped) → Stepping f (i .0) t → t .at < length ys
+            inside t stepping = place-inside (begun .writable) (i .1 .0) less stepping
 
-            inside : next .at < length ys
-            inside = place-inside f (begun .plan) (begun .plans) (i .0) less
+            within : (t : Stepped) → Stepping f (i .0) t → t .at < length (zs (i .0))
+            within t stepping = subst (λ (m : ℕ). t .at < m) (sym (store-length f extent ys (i .0))) (inside t stepping)
 
-            within : next .at < length (zs (i .0))
-            within = subst (λ (m : ℕ). next .at < m) (sym (store-length f (begun .plan) ys (i .0))) inside
+            byte-fits : (t : Stepped) → Stepping f (i .0) t → t .at * 16 < 2 ^ 64
+            byte-fits t stepping = place-fits (t .at) (length ys) (inside t stepping) (room′ .1)
 
-            byte-fits : next .at * 16 < 2 ^ 64
-            byte-fits = place-fits (next .at) (length ys) inside (room′ .1)
+            good : (t : Stepped) (u : Val) → Is S.the-row t (u ∷ []) → Is S.the-row t (S′.lowered t ∷ [])
+            good t u is = subst (Is S.the-row t) (LL.tells S.the-type S′.the-laws t _ is) is
 
-            good : (t : Stepped) (u : Val) → Is S.the-row t (u ∷ []) → t ≡ next → Is S.the-row next (S′.lowered next ∷ [])
-            good t u is e = subst (λ (w : Stepped). Is S.the-row w (S′.lowered w ∷ [])) e (subst (Is S.the-row t) (LL.tells S.the-type S′.the-laws t _ is) is)
+            slice-is : (t : Stepped) (u : Val) → Is S.the-row t (u ∷ []) → Is R (t .slice) (T′.lowered (t .slice) ∷ [])
+            slice-is t u is = LL.owed S.the-type S′.the-laws t _ (good t u is) .1 .0
 
-            slice-is : (t : Stepped) (u : Val) → Is S.the-row t (u ∷ []) → t ≡ next → Is R (next .slice) (T′.lowered (next .slice) ∷ [])
-            slice-is t u is e = LL.owed S.the-type S′.the-laws next _ (good t u is e) .1 .0
-
-            cursor-is : (t : Stepped) (u : Val) → Is S.the-row t (u ∷ []) → t ≡ next → Good (next .next)
-            cursor-is t u is e = LL.owed S.the-type S′.the-laws next _ (good t u is e) .1 .1 .0
+            cursor-is : (t : Stepped) (u : Val) → Is S.the-row t (u ∷ []) → Good (t .next)
+            cursor-is t u is = LL.owed S.the-type S′.the-laws t _ (good t u is) .1 .1 .0
 
         -- the turn that leaves the loop, and what follows it: the borrow is closed at the list that is filled
-        ends : (i : Upto) → i .0 ≡ pages → Sq W (At i) (runs C Λ En mir.turn-1 (anyQ (Turned i)))
+        ends : (i : Upto) → i .0 .extent .pages ≤ i .0 .stretch .next → Sq W (At i) (runs C Λ En mir.turn-1 (anyQ (Turned i)))
         unfolding afterTurn
-        ends i e =
-            assigns ! (bin ! (load ! (from ! (fld ! refl (stop !))) (look-in ! 16 (sub ! 1 refl (whole !)))) (load ! (from ! (fld ! refl (fld ! refl (stop !)))) (look-in ! 16 (sub ! 3 refl (sub ! 0 refl (whole !))))) tt) (from ! (stop !)) (init ! 10 refl (tt, tt)) $
-            rewrite ! 10 (λ (t : Bool). ‵ (fat fullShare tyBool l₉ 0 (vbool t))) (le-ltb (i .0) pages (omega arith)) refl $ leaves-loop ! (load ! (from ! (stop !)) (look ! 10 refl)) $ exec ! C Λ En mir.t-5 (atRet En Post) $
+        ends i past =
+            assigns ! (bin ! (load ! (from ! (fld ! refl (fld ! refl (stop !)))) (look-in ! 16 (sub ! 2 refl (sub ! 1 refl (whole !))))) (load ! (from ! (fld ! refl (fld ! refl (stop !)))) (look-in ! 16 (sub ! 3 refl (sub ! 0 refl (whole !))))) tt) (from ! (stop !)) (init ! 10 refl (tt, tt)) $
+            rewrite ! 10 (λ (t : Bool). ‵ (fat fullShare tyBool l₉ 0 (vbool t))) (le-ltb _ _ past) refl $ leaves-loop ! (load ! (from ! (stop !)) (look ! 10 refl)) $ exec ! C Λ En mir.t-5 (atRet En Post) $
             assigns ! (of-opd ! (load ! (from ! (fld ! refl (stop !))) (look-in ! 18 (sub ! 0 refl (whole !))))) (from ! (stop !)) (init ! 28 refl (EL.lawful E.the-type E′.the-laws 𝓤 H A W tt .typed (r .answer) _ answered .0)) $
-            closes-slice ! tt R ys (zs (i .0)) (store-length f (begun .plan) ys (i .0)) b o $
+            closes-slice ! tt R ys (zs (i .0)) (store-length f extent ys (i .0)) b o $
             -- [obs; the borrow; its token; what the file owns; its token; _11; …; _0; …]
             returns ! (look ! 27 refl) $ forget ! 9 refl $ forget ! 11 refl $ forget ! 15 refl $ forget ! 17 refl $ forget ! 19 refl $ forget ! 21 refl $ forget ! 23 refl $ forget ! 25 refl $ forget ! 27 refl $
             move ! (27 ∷ 28 ∷ []) $ free1 ! $ move ! (25 ∷ 26 ∷ []) $ free1 ! $ move ! (23 ∷ 24 ∷ []) $ free1 ! $ move ! (21 ∷ 22 ∷ []) $ free1 ! $ move ! (19 ∷ 20 ∷ []) $ free1 ! $ move ! (17 ∷ 18 ∷ []) $ free1 ! $
             move ! (15 ∷ 16 ∷ []) $ free1 ! $ move ! (13 ∷ 14 ∷ []) $ free1 ! $ move ! (11 ∷ 12 ∷ []) $ free1 ! $ move ! (9 ∷ 10 ∷ []) $ free1 ! $ move ! (7 ∷ 8 ∷ []) $ free1 ! $ move ! (5 ∷ 6 ∷ []) $ free1 ! $ free0 ! $
-            by ! (exits (i .0) e)
+            by ! (exits (i .0) (i .1 .0) past)
 
         turns : (i : Upto) → Sq W (At i) (runs C Λ En mir.turn-1 (anyQ (Turned i)))
-        turns i = ⊎-elim (ends i) (more i) (eq-or-lt-of-le (i .1 .0))
+        turns i = ⊎-elim (more i) (ends i) (below-or (i .0 .stretch .next) (i .0 .extent .pages))
 
         -- the loop, from its start
-        looping : (good : Good (cur 0)) → Sq W (At (0, (zero-le, good))) (runs C Λ En mir.t-4 (atRet En Post))
-        looping good = first ! $ blocks ! $ loops ! 𝓣 Nearer Nearer-wf At turns (0, (zero-le, good))
+        looping : (good : Good (r .start)) → Sq W (At (r .start, (start-reached f (begun .start), good))) (runs C Λ En mir.t-4 (atRet En Post))
+        looping good = first ! $ blocks ! $ loops ! 𝓣 Nearer Nearer-wf At turns (r .start, (start-reached f (begun .start), good))
 
     -- ---- up to the loop
     module _ (𝓣 : Tables 𝓤 H) (known-begin : Triple 𝓤 (𝓣 .C #begin) (Begin 𝓤 H A mem run)) (known-step : Triple 𝓤 (𝓣 .C #step) (Step 𝓤 H A mem run)) where
@@ -376,9 +368,6 @@ module _ {M : Type 1} (𝓤 : URA M) (H : Heap 𝓤) (A : Atoms 𝓤) (W : Given
       parts : (r : Begun) (u : Val) → Is B.the-row r (u ∷ []) → Made (r .answer) × Good (r .start)
       parts r u is = let p = LL.owed B.the-type B′.the-laws r _ is in (p .0, p .1 .0)
 
-      first-cursor : (r : Begun) (begun : Beginning r) → r .start ≡ cursorAt f (begun .plan) 0
-      first-cursor r begun = begun .start ∙ cursor-start f (begun .plan)
-
       begins : Sq W Asking (runs (𝓣 .C) (𝓣 .Λ) En mir.t-2 (atRet En Post))
       begins =
           move ! (4 ∷ 5 ∷ []) $ use2 W (raw (Begin 𝓤 H A mem run .pre to-begin) ⊛ ‵ Bytes) gives-begin $ split ! $
@@ -392,8 +381,8 @@ module _ {M : Type 1} (𝓤 : URA M) (H : Heap 𝓤) (A : Atoms 𝓤) (W : Given
           drop ! $ split ! $ move ! (1 ∷ []) $ drop ! $ move ! (2 ∷ 3 ∷ 4 ∷ 5 ∷ 1 ∷ 0 ∷ []) $
           -- [the row; the open borrow; obs; auth; what the file owns; its token; _11; …; _0; …]: the cursor starts
           assigns ! (of-opd ! (load ! (from ! (fld ! refl (stop !))) (look-in ! 18 (sub ! 1 refl (whole !))))) (from ! (stop !)) (init ! 16 refl (LL.lawful K.the-type K′.the-laws 𝓤 H A W .typed (r .start) _ (parts r u is .1) .0)) $
-          rewrite ! 16 (λ (c : Cursor). ‵ (fat fullShare K′.mir l₆ 0 (K′.lowered c))) (first-cursor r begun) refl $ rewrite ! 0 (λ (l : List SourceSlice). ‵ (row R fullShare l b o)) (store-start f (begun .plan) ys) refl $
-          looping r begun (parts r u is .0) 𝓣 known-step (subst Good (first-cursor r begun) (parts r u is .1))))))
+          rewrite ! 0 (λ (l : List SourceSlice). ‵ (row R fullShare l b o)) (store-start f (begun .start) ys) refl $
+          looping r begun (parts r u is .0) 𝓣 known-step (parts r u is .1)))))
 
   walk : (𝓣 : Tables 𝓤 H) → Triple 𝓤 (𝓣 .C #begin) (Begin 𝓤 H A mem run) → Triple 𝓤 (𝓣 .C #step) (Step 𝓤 H A mem run)
       → ent 𝓤 (onEntry 𝓤 H A map-into.signature (κ, (κ′, tt)) (q, (q′, tt)) a vals) (WpFn 𝓤 H (𝓣 .C) (𝓣 .Λ) code.function (v ∷ N′.lowered stream ∷ lval limit ∷ v′ ∷ []) Post)

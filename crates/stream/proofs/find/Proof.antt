@@ -1,7 +1,7 @@
 -- `size_of` and the test on all sizes are what `find_after` requires, and it does the rest of the step.
 -- Assumes nothing.
 use borrow.Author.Needs.{needs}
-use Rattle.stream.proofs.FindLaws.{find-cases, find-size, skipped}
+use Rattle.stream.proofs.FindLaws.{find-cases, find-size, sizes-lie, skipped}
 use Rattle.stream.proofs.find.Statement.{statement}
 use Rattle.stream.proofs.find.Tie as tie
 
@@ -39,7 +39,7 @@ cast-pages-before-2 : tie.Need-cast-pages-before-2
 cast-pages-before-2 c = search needs
 
 pages-before-requires : tie.Need-pages-before-requires
-pages-before-requires c κs = (search find-size, search needs)
+pages-before-requires c κs = (search find-size, (search needs, search sizes-lie))
 
 find-after-requires : tie.Need-find-after-requires
 find-after-requires c κs = search skipped

@@ -2,7 +2,7 @@
 -- directory, so what is left does not wrap.
 -- Assumes that the stream is present, that the directory holds all sizes, and the count of pages before.
 use borrow.Author.Needs.{needs}
-use Rattle.stream.proofs.FindLaws.{after-cases, after-size, entries-fit}
+use Rattle.stream.proofs.FindLaws.{after-cases, after-size, entries-fit, entries-lie}
 use Rattle.stream.proofs.find_after.Statement.{statement}
 use Rattle.stream.proofs.find_after.Tie as tie
 
@@ -34,7 +34,7 @@ least-requires : tie.Need-least-requires
 least-requires c κs = search needs
 
 check-pages-requires : tie.Need-check-pages-requires
-check-pages-requires c κs = (search after-size, search (entries-fit, needs))
+check-pages-requires c κs = (search after-size, (search (entries-fit, needs), search entries-lie))
 
 enum-told : tie.Need-enum-told
 enum-told c = search needs

@@ -1,11 +1,12 @@
--- The invariant: the pages of the first i streams are summed, at most 2^24 each. The measure is what is left of k.
--- Assumes a page size that passes, and a stream number of 32 bits.
+-- The invariant: the pages of the first i streams are summed. The measure is what is left of k; a run has at least one size.
+-- Assumes a page size that passes, a stream number of 32 bits, and sizes that lie in the file.
 use Prim.Native.Nat.{_≤_, _-_}
 use native.Mathlib.Omega.{arith}
 use borrow.Author.Needs.{needs}
 use Rattle.parse_buffer.specs.Bytes.{byteAt}
+use Rattle.runs.proofs.RunLaws.{run-lies}
 use Rattle.stream.specs.Inner.{Before}
-use Rattle.stream.proofs.StreamLaws.{before-cases, before-fits}
+use Rattle.stream.proofs.StreamLaws.{before-cases}
 use Rattle.stream.proofs.pages_before.Statement.{statement}
 use Rattle.stream.proofs.pages_before.Tie as tie
 
@@ -18,18 +19,17 @@ abbrev μ-loop : tie.MeasureT-loop
 loop-holds : tie.Need-loop-holds Inv-loop μ-loop
 loop-holds c = (omega arith, search before-cases)
 
-add-directory-word : tie.Need-add-directory-word Inv-loop μ-loop
-add-directory-word c = search needs
+sub-run-of : tie.Need-sub-run-of Inv-loop μ-loop
+sub-run-of c = search needs
 
-directory-word-requires : tie.Need-directory-word-requires Inv-loop μ-loop
-directory-word-requires c κs = search needs
+run-of-requires : tie.Need-run-of-requires Inv-loop μ-loop
+run-of-requires c κs = search needs
 
-pages-of-requires : tie.Need-pages-of-requires Inv-loop μ-loop
-pages-of-requires c κs = search needs
+pages-in-requires : tie.Need-pages-in-requires Inv-loop μ-loop
+pages-in-requires c κs = (search needs, (search needs, search (run-lies, needs)))
 
 add-before : tie.Need-add-before Inv-loop μ-loop
-add-before c =
-    before-fits _ _ (c .before .before .before .loop .inv .1) (c .before .directory-word .ensures) (c .pages-of .ensures) (c .before .before .before .before .before .pre .0) (search needs) (omega arith)
+add-before c = search (before-cases, needs)
 
 add-i : tie.Need-add-i Inv-loop μ-loop
 add-i c = search needs
@@ -38,7 +38,7 @@ loop-less : tie.Need-loop-less Inv-loop μ-loop
 loop-less c = search needs
 
 loop-again : tie.Need-loop-again Inv-loop μ-loop
-loop-again c = (omega arith, search (before-cases, needs))
+loop-again c = (omega arith, search before-cases)
 
 returns : tie.Need-returns Inv-loop μ-loop
 returns c = search before-cases
@@ -50,9 +50,9 @@ pages-before-spec =
     Inv-loop
     μ-loop
     loop-holds
-    add-directory-word
-    directory-word-requires
-    pages-of-requires
+    sub-run-of
+    run-of-requires
+    pages-in-requires
     add-before
     add-i
     loop-less

@@ -1,21 +1,12 @@
--- A word of the directory, through the page that holds it.
+-- A word of the directory.
 -- Assumes a page size that passes, and an index of 32 bits.
 use borrow.Author.Needs.{needs}
-use Rattle.paged.proofs.PagesLaws.{index-small, directory-word-is}
+use Rattle.paged.proofs.PagesLaws.{directory-word-is}
 use Rattle.paged.proofs.pages.directory_word.Statement.{statement}
 use Rattle.paged.proofs.pages.directory_word.Tie as tie
 
-mul-offset : tie.Need-mul-offset
-mul-offset c = search needs
-
-page-index-requires : tie.Need-page-index-requires
-page-index-requires c κs = search needs
-
-directory-page-requires : tie.Need-directory-page-requires
-directory-page-requires c κs = (search needs, search index-small)
-
-place-requires : tie.Need-place-requires
-place-requires c κs = search needs
+directory-place-requires : tie.Need-directory-place-requires
+directory-place-requires c κs = search needs
 
 word-at-requires : tie.Need-word-at-requires
 word-at-requires c κs = search needs
@@ -24,12 +15,4 @@ returns : tie.Need-returns
 returns c = search directory-word-is
 
 pub directory-word-spec : {M : Type 1} → statement M
-directory-word-spec =
-    tie.close
-    (tie.spec
-    mul-offset
-    page-index-requires
-    directory-page-requires
-    place-requires
-    word-at-requires
-    returns)
+directory-word-spec = tie.close (tie.spec directory-place-requires word-at-requires returns)

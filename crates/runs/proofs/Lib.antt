@@ -1,0 +1,4 @@
+pub mod RunLaws
+pub mod CheckLaws
+pub mod StretchLaws
+pub mod LyingLaws
