@@ -7,7 +7,7 @@ use std::rc::Rc;
 use trovespan::{Step, ENTRIES_EACH};
 
 use super::inputs::{
-    annotations, in_long_slices, in_single_pages, of_streams, LONGEST_STREAM, MOST_ANNOTATIONS,
+    annotations, in_long_slices, in_single_pages, of_streams, LONGEST_STREAM, MOST_ANNOTATIONS, PAGE,
 };
 use super::timing::{Call, Stores, REFUSED};
 use crate::annotations::triple;
@@ -40,6 +40,7 @@ pub fn cases(halves: usize) -> Vec<Case> {
         ),
         extraction(long, length),
         fresh_extraction(long, length),
+        first_page(long),
         all_streams(of_streams(2000 * halves), 2000 * halves as u32),
         steps(annotations),
         decoding(annotations),
@@ -97,7 +98,7 @@ fn extraction(file: &'static [u8], length: usize) -> Case {
             let extracted = trovespan::extract(file, 0, None, &mut stores.bytes);
             extracted.map_or(REFUSED, |length| figure(&stores.bytes[..length]))
         }),
-        theirs: Box::new(move |_| read_by_pdb(file)),
+        theirs: Box::new(move |_| read_by_pdb(file, None)),
     }
 }
 
@@ -108,7 +109,20 @@ fn fresh_extraction(file: &'static [u8], length: usize) -> Case {
         name: "extract-fresh",
         bytes: Some(length),
         ours: Box::new(move |_| fresh(file).map_or(REFUSED, |stream| figure(&stream))),
-        theirs: Box::new(move |_| read_by_pdb(file)),
+        theirs: Box::new(move |_| read_by_pdb(file, None)),
+    }
+}
+
+/// Only the first page of the stream. Both still check all of its page numbers.
+fn first_page(file: &'static [u8]) -> Case {
+    Case {
+        name: "extract-page",
+        bytes: None,
+        ours: Box::new(move |stores| {
+            let extracted = trovespan::extract(file, 0, Some(PAGE), &mut stores.bytes);
+            extracted.map_or(REFUSED, |length| figure(&stores.bytes[..length]))
+        }),
+        theirs: Box::new(move |_| read_by_pdb(file, Some(PAGE))),
     }
 }
 
@@ -123,8 +137,8 @@ fn fresh(file: &[u8]) -> Result<Vec<u8>, trovespan::Refusal> {
     Ok(stream)
 }
 
-fn read_by_pdb(file: &'static [u8]) -> u64 {
-    let got = open_msf(Cursor::new(file)).and_then(|mut msf| msf.get(0, None));
+fn read_by_pdb(file: &'static [u8], limit: Option<usize>) -> u64 {
+    let got = open_msf(Cursor::new(file)).and_then(|mut msf| msf.get(0, limit));
     got.map_or(REFUSED, |stream| figure(&stream))
 }
 
