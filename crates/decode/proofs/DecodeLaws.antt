@@ -17,46 +17,49 @@ use Rattle.outcome.specs.Store.{written}
 use Rattle.numbers.specs.Refusal.{Stop, stopIn}
 use Rattle.outcome.proofs.OutcomeLaws.{ok-refused}
 use Rattle.store.proofs.SetsLaws.{sets-append}
-use Rattle.annotations.specs.Annotation.{tripleIn}
+use Rattle.annotations.specs.Annotation.{annotationOf}
 use Rattle.annotations.specs.Step.{PlacedTriple, annotation, end, stepAt}
 use Rattle.decode.specs.Decode.{Run, rest, decodeAll, entriesEach, tripleEntries, entries, decodedEntries, counted, decoding}
 use Rattle.decode.specs.Inner.{CountingAll, countedAllIn, whyCountedAll}
-use Rattle.annotations.specs.Promises.{stepIn, Stepping}
+use Rattle.annotations.specs.Inner.{readIn, Reading}
 use Rattle.decode.specs.Promises.{decodedIn, Decoding}
 use Rattle.annotations.proofs.AnnotationLaws.{stored}
 use Rattle.annotations.proofs.MoveLaws.{Advanced, advanced}
 use Rattle.decode.proofs.RunLaws.{rest-on, rest-end, rest-refused, half}
 use Rattle.numbers.specs.declared.refusal.PlacedRefusal.{PlacedRefusal}
 use Rattle.annotations.specs.declared.annotation.Triple.{Triple}
-use Rattle.annotations.specs.declared.step.Annotated.{Annotated}
-use Rattle.annotations.specs.declared.step.Step.{Step}
-use Rattle.annotations.specs.declared.step.Step.the-variants as step
+use Rattle.annotations.specs.declared.operands.Operands.{Operands}
+use Rattle.annotations.specs.declared.operands.OperandStep.{OperandStep}
+use Rattle.annotations.specs.declared.operands.OperandStep.the-variants as read
 use Rattle.decode.specs.declared.CountedAll.{CountedAll}
 use Rattle.decode.specs.declared.CountedAll.the-variants as judged
 use Rattle.decode.specs.declared.Decoded.the-variants.{Count, Refused, NoRoom}
 
 -- ---- what a step's promise says once its variant is known
-abbrev foundIn : Annotated → PlacedTriple
-foundIn a = record { triple = tripleIn (a .annotation); next = a .next }
+abbrev tripleOf : Operands → Triple
+tripleOf a = annotationOf (a .opcode) (a .first) (a .second)
 
-module _ {s : List ℕ} {at : ℕ} {x : Step} (p : Stepping s at x) where
-  stepped : {a : Annotated} → x ≡ step.Annotation a → stepAt s at ≡ ok (annotation (foundIn a))
-  unfolding stepIn
-  stepped e = sym (p .answer) ∙ ap stepIn e
+abbrev foundIn : Operands → PlacedTriple
+foundIn a = record { triple = tripleOf a; next = a .next }
 
-  ended : {place : ℕ} → x ≡ step.End place → stepAt s at ≡ ok (end place)
-  unfolding stepIn
-  ended e = sym (p .answer) ∙ ap stepIn e
+module _ {s : List ℕ} {at : ℕ} {x : OperandStep} (p : Reading s at x) where
+  stepped : {a : Operands} → x ≡ read.Annotation a → stepAt s at ≡ ok (annotation (foundIn a))
+  unfolding readIn
+  stepped e = sym (p .is .answer) ∙ ap readIn e
 
-  stopped : {why : PlacedRefusal} → x ≡ step.Refused why → stepAt s at ≡ refused (stopIn why)
-  unfolding stepIn
-  stopped e = sym (p .answer) ∙ ap stepIn e
+  ended : {place : ℕ} → x ≡ read.End place → stepAt s at ≡ ok (end place)
+  unfolding readIn
+  ended e = sym (p .is .answer) ∙ ap readIn e
 
-  step-advanced : {a : Annotated} → x ≡ step.Annotation a → Advanced s at (a .next)
+  stopped : {why : PlacedRefusal} → x ≡ read.Refused why → stepAt s at ≡ refused (stopIn why)
+  unfolding readIn
+  stopped e = sym (p .is .answer) ∙ ap readIn e
+
+  step-advanced : {a : Operands} → x ≡ read.Annotation a → Advanced s at (a .next)
   step-advanced e = advanced s at (stepped e)
 
   -- fewer bytes are left
-  pub step-less : {a : Annotated} → x ≡ step.Annotation a → length s - a .next < length s - at
+  pub step-less : {a : Operands} → x ≡ read.Annotation a → length s - a .next < length s - at
   step-less e = let m = step-advanced e in omega arith
 
 -- ---- counting: n annotations are counted, and the rest follow from `at`
@@ -70,8 +73,8 @@ pub count-none : (s : List ℕ) → Counted-so-far s 0 0
 unfolding decodeAll
 count-none s = record { few = omega arith; within = omega arith; many = omega arith; last = refl }
 
-module _ {s : List ℕ} {at n : ℕ} {x : Step} (c : Counted-so-far s at n) (p : Stepping s at x) where
-  pub count-more : {a : Annotated} → x ≡ step.Annotation a → Counted-so-far s (a .next) (n + 1)
+module _ {s : List ℕ} {at n : ℕ} {x : OperandStep} (c : Counted-so-far s at n) (p : Reading s at x) where
+  pub count-more : {a : Operands} → x ≡ read.Annotation a → Counted-so-far s (a .next) (n + 1)
   count-more e =
       let m = step-advanced p e in
       let r = rest-on s at (stepped p e) in
@@ -82,14 +85,14 @@ module _ {s : List ℕ} {at n : ℕ} {x : Step} (c : Counted-so-far s at n) (p :
         last = c .last ∙ ap (λ (q : Run). q .last) r;
       }
 
-  pub count-end : {place : ℕ} → x ≡ step.End place → CountingAll s (judged.All n)
+  pub count-end : {place : ℕ} → x ≡ read.End place → CountingAll s (judged.All n)
   unfolding countedAllIn _>>_
   count-end e =
       let r = rest-end s at (ended p e) in
       let k : length (decodeAll s .found) ≡ n = omega (arith, c .many ∙ ap (λ (q : Run). n + length (q .found)) r) in
       record { answer = rw (k, c .last, r) }
 
-  pub count-refused : {why : PlacedRefusal} → x ≡ step.Refused why → CountingAll s (judged.Refused why)
+  pub count-refused : {why : PlacedRefusal} → x ≡ read.Refused why → CountingAll s (judged.Refused why)
   unfolding countedAllIn _>>_
   count-refused e = record { answer = rw (c .last, rest-refused s at (stopped p e)) }
 
@@ -105,8 +108,8 @@ pub write-none : (s : List ℕ) (st : List ℤ) → length (decodedEntries s) �
 unfolding decodeAll
 write-none s st h = record { same = refl; wanted = refl; room = omega arith }
 
-module _ {s : List ℕ} {st₀ st : List ℤ} {at i : ℕ} {x : Step} (w : Written-so-far s st₀ st at i) (p : Stepping s at x) where
-  module _ {a : Annotated} (e : x ≡ step.Annotation a) {t : Triple} (g : t ≡ tripleIn (a .annotation)) where
+module _ {s : List ℕ} {st₀ st : List ℤ} {at i : ℕ} {x : OperandStep} (w : Written-so-far s st₀ st at i) (p : Reading s at x) where
+  module _ {a : Operands} (e : x ≡ read.Annotation a) {t : Triple} (g : t ≡ tripleOf a) where
     next : entries (rest s at .found) ≡ tripleEntries t ++ entries (rest s (a .next) .found)
     unfolding entries
     next = rw (rest-on s at (stepped p e), g)
@@ -122,11 +125,11 @@ module _ {s : List ℕ} {st₀ st : List ℤ} {at i : ℕ} {x : Step} (w : Writt
           room = let h = w .room in rw (k, length-sets) (omega (arith, rw next at h));
         }
 
-  pub write-end : {place : ℕ} → x ≡ step.End place → st ≡ sets st₀ 0 (decodedEntries s)
+  pub write-end : {place : ℕ} → x ≡ read.End place → st ≡ sets st₀ 0 (decodedEntries s)
   unfolding entries
   write-end e = rw (rest-end s at (ended p e)) at (w .wanted)
 
-  pub write-refused : {why : PlacedRefusal} → x ≡ step.Refused why → st ≡ sets st₀ 0 (decodedEntries s)
+  pub write-refused : {why : PlacedRefusal} → x ≡ read.Refused why → st ≡ sets st₀ 0 (decodedEntries s)
   unfolding entries
   write-refused e = rw (rest-refused s at (stopped p e)) at (w .wanted)
 

@@ -1,11 +1,12 @@
 // Decodes all annotations of a line program into a lent store. The first pass counts them and the second writes them,
 // so a refusal has written nothing.
-use annotations::Step;
+use annotations::OperandStep;
 use annotations::Triple;
-use annotations::step_at;
+use annotations::operands_at;
 use annotations::wide;
 use numbers::PlacedRefusal;
 use numbers::Refusal;
+use triples::triple_of;
 ghost use mathlib.Core.Path.{_≡_};
 ghost use Prim.Native.Nat.{_+_, _≤_};
 ghost use lib.ListN.{length};
@@ -68,16 +69,16 @@ fn count_all(bytes: &[u8]) -> CountedAll
     let mut at: usize = 0;
     let mut n: usize = 0;
     loop {
-        let s = step_at(bytes, at);
+        let s = operands_at(bytes, at);
         match s {
-            Step::Annotation(a) => {
+            OperandStep::Annotation(a) => {
                 at = a.next;
                 n += 1;
             }
-            Step::End(_) => {
+            OperandStep::End(_) => {
                 return CountedAll::All(n);
             }
-            Step::Refused(why) => {
+            OperandStep::Refused(why) => {
                 return CountedAll::Refused(why);
             }
         }
@@ -92,18 +93,17 @@ fn write_all(bytes: &[u8], store: &mut [i64])
     let mut at: usize = 0;
     let mut i: usize = 0;
     loop {
-        let s = step_at(bytes, at);
+        let s = operands_at(bytes, at);
         match s {
-            Step::Annotation(a) => {
-                let annotation = a.annotation;
-                put(store, i, annotation.triple());
+            OperandStep::Annotation(a) => {
+                put(store, i, triple_of(a.opcode, a.first, a.second));
                 at = a.next;
                 i += ENTRIES_EACH;
             }
-            Step::End(_) => {
+            OperandStep::End(_) => {
                 return;
             }
-            Step::Refused(_) => {
+            OperandStep::Refused(_) => {
                 return;
             }
         }

@@ -16,8 +16,8 @@ abbrev μ-loop : tie.MeasureT-loop
 loop-holds : tie.Need-loop-holds Inv-loop μ-loop
 loop-holds c = search count-cases
 
-step-at-requires : tie.Need-step-at-requires Inv-loop μ-loop
-step-at-requires c κs = search needs
+operands-at-requires : tie.Need-operands-at-requires Inv-loop μ-loop
+operands-at-requires c κs = search needs
 
 enum-known-s : tie.Need-enum-known-s Inv-loop μ-loop
 enum-known-s c = search needs
@@ -50,7 +50,7 @@ count-all-spec =
     Inv-loop
     μ-loop
     loop-holds
-    step-at-requires
+    operands-at-requires
     enum-known-s
     add-n
     loop-less

@@ -16,14 +16,14 @@ abbrev μ-loop : tie.MeasureT-loop
 loop-holds : tie.Need-loop-holds Inv-loop μ-loop
 loop-holds c = search write-cases
 
-step-at-requires : tie.Need-step-at-requires Inv-loop μ-loop
-step-at-requires c κs = search needs
+operands-at-requires : tie.Need-operands-at-requires Inv-loop μ-loop
+operands-at-requires c κs = search needs
 
 enum-known-s : tie.Need-enum-known-s Inv-loop μ-loop
 enum-known-s c = search needs
 
-triple-requires : tie.Need-triple-requires Inv-loop μ-loop
-triple-requires c κs = search needs
+triple-of-requires : tie.Need-triple-of-requires Inv-loop μ-loop
+triple-of-requires c κs = search needs
 
 put-requires : tie.Need-put-requires Inv-loop μ-loop
 put-requires c κs = search write-cases
@@ -62,9 +62,9 @@ write-all-spec =
     Inv-loop
     μ-loop
     loop-holds
-    step-at-requires
+    operands-at-requires
     enum-known-s
-    triple-requires
+    triple-of-requires
     put-requires
     add-i
     loop-less
