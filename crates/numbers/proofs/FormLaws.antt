@@ -115,6 +115,11 @@ module _ (s : List ℕ) (at : ℕ) {w : ℕ} (d : Width s at w) (n : w ≡ 0 →
       by-width (λ o w. (w ≡ 1 → ⊥) → (w ≡ 2 → ⊥) → at + 3 < length s)
       (λ l a b. absurd (a refl)) (λ l a b. absurd (b refl)) (λ l a b. omega arith)
 
+  -- there is a number
+  pub number-there : (v : ℕ) × (numberAt s at ≡ ok (record { value = v; next = at + w }))
+  number-there =
+      by-width (λ o w. (v : ℕ) × (o ≡ ok (record { value = v; next = at + w }))) (λ l. (_, refl)) (λ l. (_, refl)) (λ l. (_, refl))
+
   module _ {b1 : ℕ} (i : Byte s at b1) where
     pub value-one : w ≡ 1 → Value s at w b1
     value-one e =
@@ -145,6 +150,10 @@ module _ (s : List ℕ) (at : ℕ) (d : Width s at 0) where
       go _ (four l) e = absurd (omega arith)
       go _ (short l) e = f l
       go _ (invalid l) e = g l
+
+  -- there is no number
+  pub number-missing : (why : Stop) × (numberAt s at ≡ refused why)
+  number-missing = by-refusal (λ o. (why : Stop) × (o ≡ refused why)) (λ l. (_, refl)) (λ l. (_, refl))
 
   pub why-past : length s ≤ at → Why s at (record { refusal = ShortData; place = length s })
   why-past h =
