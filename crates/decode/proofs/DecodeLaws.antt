@@ -18,10 +18,11 @@ use Rattle.numbers.specs.Refusal.{Stop, stopIn}
 use Rattle.outcome.proofs.OutcomeLaws.{ok-refused}
 use Rattle.store.proofs.SetsLaws.{sets-append}
 use Rattle.annotations.specs.Annotation.{annotationOf}
-use Rattle.annotations.specs.Step.{PlacedTriple, annotation, end, stepAt}
+use Rattle.annotations.specs.Step.{PlacedTriple, Stepped, annotation, end, stepAt}
 use Rattle.decode.specs.Decode.{Run, rest, decodeAll, entriesEach, tripleEntries, entries, decodedEntries, counted, decoding}
 use Rattle.decode.specs.Inner.{CountingAll, countedAllIn, whyCountedAll}
 use Rattle.annotations.specs.Inner.{readIn, Reading}
+use Rattle.skipping.specs.Inner.{endOf, Skipping}
 use Rattle.decode.specs.Promises.{decodedIn, Decoding}
 use Rattle.annotations.proofs.AnnotationLaws.{stored}
 use Rattle.annotations.proofs.MoveLaws.{Advanced, advanced}
@@ -73,17 +74,43 @@ pub count-none : (s : List ℕ) → Counted-so-far s 0 0
 unfolding decodeAll
 count-none s = record { few = omega arith; within = omega arith; many = omega arith; last = refl }
 
-module _ {s : List ℕ} {at n : ℕ} {x : OperandStep} (c : Counted-so-far s at n) (p : Reading s at x) where
-  pub count-more : {a : Operands} → x ≡ read.Annotation a → Counted-so-far s (a .next) (n + 1)
-  count-more e =
-      let m = step-advanced p e in
-      let r = rest-on s at (stepped p e) in
+-- a place that is skipped to is the one after an annotation
+skips : (o : Outcome Stop Stepped) → (endOf o ≡ 0 → ⊥) → (x : PlacedTriple) × ((o ≡ ok (annotation x)) × (endOf o ≡ x .next))
+unfolding endOf
+skips (ok (annotation x)) h = (x, (refl, refl))
+skips (ok (end place)) h = absurd (h refl)
+skips (refused why) h = absurd (h refl)
+
+module _ {s : List ℕ} {at next : ℕ} (k : Skipping s at next) (z : next ≡ 0 → ⊥) where
+  skipped : (x : PlacedTriple) × ((stepAt s at ≡ ok (annotation x)) × (next ≡ x .next))
+  skipped = let p = skips (stepAt s at) (λ e. z (k .is ∙ e)) in (p .0, (p .1 .0, k .is ∙ p .1 .1))
+
+  skip-advanced : Advanced s at next
+  skip-advanced = rw (skipped .1 .1) (advanced s at (skipped .1 .0))
+
+  -- fewer bytes are left
+  pub skip-less : length s - next < length s - at
+  skip-less = let m = skip-advanced in omega arith
+
+  pub count-more : {n : ℕ} → Counted-so-far s at n → Counted-so-far s next (n + 1)
+  count-more {n} c =
+      let m = skip-advanced in
+      let r = rest-on s at (skipped .1 .0) in
       record {
         few = omega (arith, c .few);
         within = m .within;
-        many = omega (arith, c .many ∙ ap (λ (q : Run). n + length (q .found)) r);
-        last = c .last ∙ ap (λ (q : Run). q .last) r;
+        many = rw (skipped .1 .1) (omega (arith, c .many ∙ ap (λ (q : Run). n + length (q .found)) r));
+        last = rw (skipped .1 .1) (c .last ∙ ap (λ (q : Run). q .last) r);
       }
+
+module _ {s : List ℕ} {at n : ℕ} {x : OperandStep} (c : Counted-so-far s at n) (p : Reading s at x) where
+  -- an annotation ends past place 0
+  pub count-never : {a : Operands} {next : ℕ} {answer : CountedAll} → Skipping s at next → next ≡ 0 → x ≡ read.Annotation a → CountingAll s answer
+  unfolding endOf
+  count-never {a} k z e =
+      let m = step-advanced p e in
+      let g : 0 ≡ a .next = sym z ∙ k .is ∙ rw (stepped p e) in
+      absurd (omega arith)
 
   pub count-end : {place : ℕ} → x ≡ read.End place → CountingAll s (judged.All n)
   unfolding countedAllIn _>>_
@@ -96,7 +123,7 @@ module _ {s : List ℕ} {at n : ℕ} {x : OperandStep} (c : Counted-so-far s at 
   unfolding countedAllIn _>>_
   count-refused e = record { answer = rw (c .last, rest-refused s at (stopped p e)) }
 
-pub ruleset count-cases = (step-less, count-none, count-more, count-end, count-refused)
+pub ruleset count-cases = (skip-less, count-none, count-more, count-never, count-end, count-refused)
 
 -- ---- writing: i entries are written, and writing the rest gives what is wanted
 pub record Written-so-far (s : List ℕ) (st₀ st : List ℤ) (at i : ℕ) : Type 0 where

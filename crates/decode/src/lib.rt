@@ -6,6 +6,7 @@ use annotations::operands_at;
 use annotations::wide;
 use numbers::PlacedRefusal;
 use numbers::Refusal;
+use skipping::skip_at;
 use triples::triple_of;
 ghost use mathlib.Core.Path.{_≡_};
 ghost use Prim.Native.Nat.{_+_, _≤_};
@@ -62,26 +63,31 @@ pub fn decode_all(bytes: &[u8], store: &mut [i64]) -> Decoded
     Decoded::Count(n)
 }
 
-// Counts the annotations before the end, unless a step is refused.
+// Counts the annotations before the end, unless a step is refused. Nothing is read but what judging needs.
 fn count_all(bytes: &[u8]) -> CountedAll
     ensures { λ r. ⌜ CountingAll (now (bytes .entry)) r ⌝ }
 {
     let mut at: usize = 0;
     let mut n: usize = 0;
     loop {
-        let s = operands_at(bytes, at);
-        match s {
-            OperandStep::Annotation(a) => {
-                at = a.next;
-                n += 1;
-            }
-            OperandStep::End(_) => {
-                return CountedAll::All(n);
-            }
-            OperandStep::Refused(why) => {
-                return CountedAll::Refused(why);
+        let next = skip_at(bytes, at);
+        if next == 0 {
+            let s = operands_at(bytes, at);
+            match s {
+                OperandStep::Refused(why) => {
+                    return CountedAll::Refused(why);
+                }
+                OperandStep::End(_) => {
+                    return CountedAll::All(n);
+                }
+                // Not reached: `skip_at` has found no annotation here.
+                OperandStep::Annotation(_) => {
+                    return CountedAll::All(n);
+                }
             }
         }
+        at = next;
+        n += 1;
     }
 }
 

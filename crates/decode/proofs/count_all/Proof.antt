@@ -16,11 +16,29 @@ abbrev μ-loop : tie.MeasureT-loop
 loop-holds : tie.Need-loop-holds Inv-loop μ-loop
 loop-holds c = search count-cases
 
+skip-at-requires : tie.Need-skip-at-requires Inv-loop μ-loop
+skip-at-requires c κs = search needs
+
 operands-at-requires : tie.Need-operands-at-requires Inv-loop μ-loop
 operands-at-requires c κs = search needs
 
 enum-known-s : tie.Need-enum-known-s Inv-loop μ-loop
 enum-known-s c = search needs
+
+returns : tie.Need-returns Inv-loop μ-loop
+returns c = search count-cases
+
+enum-told : tie.Need-enum-told Inv-loop μ-loop
+enum-told c = search needs
+
+returns-2 : tie.Need-returns-2 Inv-loop μ-loop
+returns-2 c = search count-cases
+
+enum-told-2 : tie.Need-enum-told-2 Inv-loop μ-loop
+enum-told-2 c = search needs
+
+returns-3 : tie.Need-returns-3 Inv-loop μ-loop
+returns-3 c = search count-cases
 
 add-n : tie.Need-add-n Inv-loop μ-loop
 add-n c = search needs
@@ -31,18 +49,6 @@ loop-less c = search count-cases
 loop-again : tie.Need-loop-again Inv-loop μ-loop
 loop-again c = search count-cases
 
-enum-told : tie.Need-enum-told Inv-loop μ-loop
-enum-told c = search needs
-
-returns : tie.Need-returns Inv-loop μ-loop
-returns c = search count-cases
-
-enum-known-s-2 : tie.Need-enum-known-s-2 Inv-loop μ-loop
-enum-known-s-2 c = search needs
-
-returns-2 : tie.Need-returns-2 Inv-loop μ-loop
-returns-2 c = search count-cases
-
 pub count-all-spec : {M : Type 1} → statement M
 count-all-spec =
     tie.close
@@ -50,12 +56,14 @@ count-all-spec =
     Inv-loop
     μ-loop
     loop-holds
+    skip-at-requires
     operands-at-requires
     enum-known-s
+    returns
+    enum-told
+    returns-2
+    enum-told-2
+    returns-3
     add-n
     loop-less
-    loop-again
-    enum-told
-    returns
-    enum-known-s-2
-    returns-2)
+    loop-again)
