@@ -22,7 +22,7 @@ use Rattle.annotations.specs.Step.{PlacedTriple, Stepped, annotation, end, step
 use Rattle.decode.specs.Decode.{Run, rest, decodeAll, entriesEach, tripleEntries, entries, decodedEntries, counted, decoding}
 use Rattle.decode.specs.Inner.{CountingAll, countedAllIn, whyCountedAll}
 use Rattle.annotations.specs.Inner.{readIn, Reading}
-use Rattle.skipping.specs.Inner.{endOf, Skipping}
+use Rattle.judging.specs.Inner.{endOf, Skipping, Judged}
 use Rattle.decode.specs.Promises.{decodedIn, Decoding}
 use Rattle.annotations.proofs.AnnotationLaws.{stored}
 use Rattle.annotations.proofs.MoveLaws.{Advanced, advanced}
@@ -58,10 +58,6 @@ module _ {s : List ℕ} {at : ℕ} {x : OperandStep} (p : Reading s at x) where
 
   step-advanced : {a : Operands} → x ≡ read.Annotation a → Advanced s at (a .next)
   step-advanced e = advanced s at (stepped e)
-
-  -- fewer bytes are left
-  pub step-less : {a : Operands} → x ≡ read.Annotation a → length s - a .next < length s - at
-  step-less e = let m = step-advanced e in omega arith
 
 -- ---- counting: n annotations are counted, and the rest follow from `at`
 pub record Counted-so-far (s : List ℕ) (at n : ℕ) : Type 0 where
@@ -125,42 +121,59 @@ module _ {s : List ℕ} {at n : ℕ} {x : OperandStep} (c : Counted-so-far s at 
 
 pub ruleset count-cases = (skip-less, count-none, count-more, count-never, count-end, count-refused)
 
--- ---- writing: i entries are written, and writing the rest gives what is wanted
-pub record Written-so-far (s : List ℕ) (st₀ st : List ℤ) (at i : ℕ) : Type 0 where
+-- ---- writing: i entries are written, and writing the rest, of `needed` in all, gives what is wanted
+pub record Written-so-far (s : List ℕ) (st₀ st : List ℤ) (needed at i : ℕ) : Type 0 where
   pub same : length st ≡ length st₀
   pub wanted : sets st i (entries (rest s at .found)) ≡ sets st₀ 0 (decodedEntries s)
-  pub room : i + length (entries (rest s at .found)) ≤ length st
+  pub left : i + length (entries (rest s at .found)) ≡ needed
+  pub room : needed ≤ length st
 
-pub write-none : (s : List ℕ) (st : List ℤ) → length (decodedEntries s) ≤ length st → Written-so-far s st st 0 0
+pub write-none : (s : List ℕ) (st : List ℤ) {needed : ℕ} → needed ≡ length (decodedEntries s) → needed ≤ length st → Written-so-far s st st needed 0 0
 unfolding decodeAll
-write-none s st h = record { same = refl; wanted = refl; room = omega arith }
+write-none s st e h = record { same = refl; wanted = refl; left = omega arith; room = h }
 
-module _ {s : List ℕ} {st₀ st : List ℤ} {at i : ℕ} {x : OperandStep} (w : Written-so-far s st₀ st at i) (p : Reading s at x) where
-  module _ {a : Operands} (e : x ≡ read.Annotation a) {t : Triple} (g : t ≡ tripleOf a) where
+-- where entries are left an annotation stands
+left-there : (s : List ℕ) (at : ℕ) → 0 < length (entries (rest s at .found)) → Judged s at
+unfolding entries endOf
+left-there s at h = record { there = go (stepAt s at) refl }
+  where
+    go : (o : Outcome Stop Stepped) → stepAt s at ≡ o → endOf o ≡ 0 → ⊥
+    go (ok (annotation x)) e z = let m = advanced s at e in omega arith
+    go (ok (end place)) e z = let k = rw (rest-end s at e) at h in omega arith
+    go (refused why) e z = let k = rw (rest-refused s at e) at h in omega arith
+
+none-left : (l : List ℤ) → length l ≡ 0 → l ≡ []
+none-left [] e = refl
+none-left (x ∷ l) e = absurd (omega arith)
+
+module _ {s : List ℕ} {st₀ st : List ℤ} {needed at i : ℕ} (w : Written-so-far s st₀ st needed at i) where
+  pub write-there : i < needed → Judged s at
+  write-there l = left-there s at (let e = w .left in omega arith)
+
+  module _ {a : Operands} (p : Reading s at (read.Annotation a)) {t : Triple} (g : t ≡ tripleOf a) where
     next : entries (rest s at .found) ≡ tripleEntries t ++ entries (rest s (a .next) .found)
     unfolding entries
-    next = rw (rest-on s at (stepped p e), g)
+    next = rw (rest-on s at (stepped p refl), g)
 
     pub write-room : i + entriesEach ≤ length st
-    write-room = let h = w .room in omega (arith, rw next at h)
+    write-room = let e = w .left in let h = w .room in omega (arith, rw next at e)
 
-    pub write-more : {st′ : List ℤ} → st′ ≡ sets st i (tripleEntries t) → Written-so-far s st₀ st′ (a .next) (i + entriesEach)
+    pub write-more : {st′ : List ℤ} → st′ ≡ sets st i (tripleEntries t) → Written-so-far s st₀ st′ needed (a .next) (i + entriesEach)
     write-more k =
         record {
           same = rw (k, length-sets) (w .same);
           wanted = rw k (sets-append (tripleEntries t) (entries (rest s (a .next) .found)) st i ∙ rw next at (w .wanted));
-          room = let h = w .room in rw (k, length-sets) (omega (arith, rw next at h));
+          left = let e = w .left in omega (arith, rw next at e);
+          room = rw (k, length-sets) (w .room);
         }
 
-  pub write-end : {place : ℕ} → x ≡ read.End place → st ≡ sets st₀ 0 (decodedEntries s)
-  unfolding entries
-  write-end e = rw (rest-end s at (ended p e)) at (w .wanted)
+  pub write-end : needed ≤ i → st ≡ sets st₀ 0 (decodedEntries s)
+  write-end l =
+      let e = w .left in
+      let n : length (entries (rest s at .found)) ≡ 0 = omega arith in
+      rw (none-left (entries (rest s at .found)) n) at (w .wanted)
 
-  pub write-refused : {why : PlacedRefusal} → x ≡ read.Refused why → st ≡ sets st₀ 0 (decodedEntries s)
-  unfolding entries
-  write-refused e = rw (rest-refused s at (stopped p e)) at (w .wanted)
-
-pub ruleset write-cases = (step-less, write-none, write-room, write-more, write-end, write-refused)
+pub ruleset write-cases = (write-none, write-there, write-room, write-more, write-end)
 
 -- the stores of `put`, one for each entry
 pub put-is : (st : List ℤ) (at : ℕ) (y z : ℤ) {x w : ℤ} → x ≡ w → mag x < 2 ^ 63 → mag y < 2 ^ 63 → mag z < 2 ^ 63 → set (set (set st at (toZ w64 (ofZ w64 x))) (at + 1) (toZ w64 (ofZ w64 y))) (at + 2) (toZ w64 (ofZ w64 z)) ≡ sets st at (w ∷ y ∷ z ∷ [])
@@ -201,10 +214,11 @@ module _ (s : List ℕ) (store : List ℤ) {c : CountedAll} (p : CountingAll s c
     no-room l =
         record { answer = rw (counts, lt-leb (entriesEach * n) (length store) l); after = rw (counts, lt-leb (entriesEach * n) (length store) l) }
 
-    module _ (l : entriesEach * n ≤ length store) where
-      pub room : length (decodedEntries s) ≤ length store
-      room = rw (length-entries, ← is-count) l
+    -- the entries needed are the entries that there are
+    pub all-needed : entriesEach * n ≡ length (decodedEntries s)
+    all-needed = rw (length-entries, ← is-count)
 
+    module _ (l : entriesEach * n ≤ length store) where
       pub decoded : {store′ : List ℤ} → store′ ≡ sets store 0 (decodedEntries s) → Decoding s store (Count n) store′
       unfolding decoding decodedIn written raise require _>>=_ _>>_
       decoded f =

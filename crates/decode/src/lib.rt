@@ -4,9 +4,10 @@ use annotations::OperandStep;
 use annotations::Triple;
 use annotations::operands_at;
 use annotations::wide;
+use judging::judged_at;
+use judging::skip_at;
 use numbers::PlacedRefusal;
 use numbers::Refusal;
-use skipping::skip_at;
 use triples::triple_of;
 ghost use mathlib.Core.Path.{_≡_};
 ghost use Prim.Native.Nat.{_+_, _≤_};
@@ -59,7 +60,7 @@ pub fn decode_all(bytes: &[u8], store: &mut [i64]) -> Decoded
     if store.len() < needed {
         return Decoded::NoRoom(needed);
     }
-    write_all(bytes, store);
+    write_all(bytes, store, needed);
     Decoded::Count(n)
 }
 
@@ -91,28 +92,19 @@ fn count_all(bytes: &[u8]) -> CountedAll
     }
 }
 
-// Writes the entries of all annotations from the front. The caller guarantees room for them.
-fn write_all(bytes: &[u8], store: &mut [i64])
-    requires { ⌜ length (decodedEntries (now bytes)) ≤ length (now store) ⌝ }
+// Writes the entries of all annotations from the front: `needed` of them, for which the caller guarantees room.
+fn write_all(bytes: &[u8], store: &mut [i64], needed: usize)
+    requires { ⌜ needed ≡ length (decodedEntries (now bytes)) ⌝ }
+    requires { ⌜ needed ≤ length (now store) ⌝ }
     ensures { λ r. ⌜ now (store .exit) ≡ sets (now (store .entry)) 0 (decodedEntries (now (bytes .entry))) ⌝ }
 {
     let mut at: usize = 0;
     let mut i: usize = 0;
-    loop {
-        let s = operands_at(bytes, at);
-        match s {
-            OperandStep::Annotation(a) => {
-                put(store, i, triple_of(a.opcode, a.first, a.second));
-                at = a.next;
-                i += ENTRIES_EACH;
-            }
-            OperandStep::End(_) => {
-                return;
-            }
-            OperandStep::Refused(_) => {
-                return;
-            }
-        }
+    while i < needed {
+        let a = judged_at(bytes, at);
+        put(store, i, triple_of(a.opcode, a.first, a.second));
+        at = a.next;
+        i += ENTRIES_EACH;
     }
 }
 

@@ -14,7 +14,7 @@ use Rattle.numbers.specs.Inner.{Width, Value}
 use Rattle.numbers.proofs.FormLaws.{number-there, number-missing}
 use Rattle.annotations.specs.Step.{operands, stepAt}
 use Rattle.annotations.proofs.StepLaws.{first-missing, one-operand, second-missing, two-operands, past-end, code-missing, code-zero, code-unknown, code-known}
-use Rattle.skipping.specs.Inner.{endOf, Skipping}
+use Rattle.judging.specs.Inner.{endOf, Skipping}
 
 -- a width of 0 says that there is no number
 none-there : (s : List ℕ) (at : ℕ) {w : ℕ} → Width s at w → w ≡ 0 → (why : Stop) × (numberAt s at ≡ refused why)
@@ -50,7 +50,7 @@ module _ (s : List ℕ) (at : ℕ) where
       record { is = ⊎-elim (λ h. rw (code-missing s at h (none-there s at d z .1))) (λ h. rw (past-end s at h)) (below-or at (length s)) }
 
   module _ {w op : ℕ} (d : Width s at w) (n : w ≡ 0 → ⊥) (v : Value s at w op) where
-    inside : at < length s
+    pub inside : at < length s
     inside = let h = d .within in omega arith
 
     pub skip-zero : op ≡ 0 → Skipping s at 0

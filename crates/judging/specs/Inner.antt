@@ -1,4 +1,4 @@
--- What inner functions promise their callers: where an annotation ends.
+-- What inner functions promise their callers: where an annotation ends, and that one stands at a place.
 use mathlib.Core.Path.{_≡_}
 use mathlib.Core.List.{List}
 use Prim.Native.Nat.{ℕ}
@@ -14,3 +14,7 @@ endOf (refused why) = 0
 
 pub record Skipping (s : List ℕ) (at r : ℕ) : Type 0 where
   pub is : r ≡ endOf (stepAt s at)
+
+-- an annotation stands there
+pub record Judged (s : List ℕ) (at : ℕ) : Type 0 where
+  pub there : endOf (stepAt s at) ≡ 0 → ⊥

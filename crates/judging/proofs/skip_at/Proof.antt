@@ -1,9 +1,9 @@
 -- The opcode is the one that `stepAt` reads, and the tests are its tests, so each return is where the annotation ends.
 -- Assumes nothing.
-use Rattle.skipping.proofs.SkipLaws.{skip-cases}
+use Rattle.judging.proofs.SkipLaws.{skip-cases}
 use borrow.Author.Needs.{needs}
-use Rattle.skipping.proofs.skip_at.Statement.{statement}
-use Rattle.skipping.proofs.skip_at.Tie as tie
+use Rattle.judging.proofs.skip_at.Statement.{statement}
+use Rattle.judging.proofs.skip_at.Tie as tie
 
 width-at-requires : tie.Need-width-at-requires
 width-at-requires c κs = search needs

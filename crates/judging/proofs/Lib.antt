@@ -1,0 +1,2 @@
+pub mod SkipLaws
+pub mod JudgedLaws
