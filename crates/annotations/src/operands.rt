@@ -41,14 +41,14 @@ pub fn operands_at(bytes: &[u8], at: usize) -> OperandStep
     if opcode == 0 {
         return OperandStep::End(n);
     }
-    let next = at + width;
+    let place = at + width;
     if 13 < opcode {
         return OperandStep::Refused(PlacedRefusal {
             refusal: Refusal::UnknownBinaryAnnotation(opcode),
-            place: next,
+            place,
         });
     }
-    operands_of(bytes, opcode, next)
+    operands_of(bytes, opcode, place)
 }
 
 // Reads the operands of an opcode at `at`: 12 has two, the others one.
@@ -68,12 +68,12 @@ fn operands_of(bytes: &[u8], opcode: u32, at: usize) -> OperandStep
             return OperandStep::Refused(why_at(bytes, next));
         }
         let second = value_at(bytes, next, width);
-        let next = next + width;
+        let after = next + width;
         return OperandStep::Annotation(Operands {
             opcode,
             first,
             second,
-            next,
+            next: after,
         });
     }
     OperandStep::Annotation(Operands {

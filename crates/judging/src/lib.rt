@@ -57,21 +57,21 @@ pub fn judged_at(bytes: &[u8], at: usize) -> Operands
     let width = width_at(bytes, place);
     let first = value_at(bytes, place, width);
     let next = place + width;
-    if opcode == 12 {
-        let width = width_at(bytes, next);
-        let second = value_at(bytes, next, width);
-        let next = next + width;
+    if opcode != 12 {
         return Operands {
             opcode,
             first,
-            second,
+            second: 0,
             next,
         };
     }
+    let width = width_at(bytes, next);
+    let second = value_at(bytes, next, width);
+    let after = next + width;
     Operands {
         opcode,
         first,
-        second: 0,
-        next,
+        second,
+        next: after,
     }
 }

@@ -1,7 +1,7 @@
 -- `skip_at` would find no annotation if one of the numbers were missing, so each is there, and they are what `stepAt`
 -- reads. Assumes that an annotation stands there.
-use Rattle.judging.proofs.JudgedLaws.{opcode-there, first-there, second-there, judged-cases}
 use borrow.Author.Needs.{needs}
+use Rattle.judging.proofs.JudgedLaws.{opcode-there, first-there, second-there, judged-cases}
 use Rattle.judging.proofs.judged_at.Statement.{statement}
 use Rattle.judging.proofs.judged_at.Tie as tie
 
@@ -23,17 +23,17 @@ value-at-requires-2 c κs = search first-there
 add-next : tie.Need-add-next
 add-next c = search needs
 
+returns : tie.Need-returns
+returns c = search judged-cases
+
 width-at-requires-3 : tie.Need-width-at-requires-3
 width-at-requires-3 c κs = search needs
 
 value-at-requires-3 : tie.Need-value-at-requires-3
 value-at-requires-3 c κs = search second-there
 
-add-next-2 : tie.Need-add-next-2
-add-next-2 c = search needs
-
-returns : tie.Need-returns
-returns c = search judged-cases
+add-after : tie.Need-add-after
+add-after c = search needs
 
 returns-2 : tie.Need-returns-2
 returns-2 c = search judged-cases
@@ -48,8 +48,8 @@ judged-at-spec =
     width-at-requires-2
     value-at-requires-2
     add-next
+    returns
     width-at-requires-3
     value-at-requires-3
-    add-next-2
-    returns
+    add-after
     returns-2)

@@ -1,7 +1,7 @@
 -- The opcode is the one that `stepAt` reads, and the tests are its tests, so each return is where the annotation ends.
 -- Assumes nothing.
-use Rattle.judging.proofs.SkipLaws.{skip-cases}
 use borrow.Author.Needs.{needs}
+use Rattle.judging.proofs.SkipLaws.{skip-cases}
 use Rattle.judging.proofs.skip_at.Statement.{statement}
 use Rattle.judging.proofs.skip_at.Tie as tie
 

@@ -1,7 +1,7 @@
 -- The widths are those of the numbers that `operands` reads, and the test is its test, so each return is where it ends.
 -- Assumes nothing.
-use Rattle.judging.proofs.SkipLaws.{operand-cases}
 use borrow.Author.Needs.{needs}
+use Rattle.judging.proofs.SkipLaws.{operand-cases}
 use Rattle.judging.proofs.skip_operands.Statement.{statement}
 use Rattle.judging.proofs.skip_operands.Tie as tie
 

@@ -1,7 +1,7 @@
 -- Each pick is one choice of `firstOf`, from the last to the first.
 -- Assumes nothing.
-use Rattle.triples.proofs.TripleLaws.{first-is}
 use borrow.Author.Needs.{needs}
+use Rattle.triples.proofs.TripleLaws.{first-is}
 use Rattle.triples.proofs.first_of.Statement.{statement}
 use Rattle.triples.proofs.first_of.Tie as tie
 

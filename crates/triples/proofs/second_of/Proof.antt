@@ -1,7 +1,7 @@
 -- Each pick is one choice of `secondOf`, from the last to the first.
 -- Assumes nothing.
-use Rattle.triples.proofs.TripleLaws.{second-is}
 use borrow.Author.Needs.{needs}
+use Rattle.triples.proofs.TripleLaws.{second-is}
 use Rattle.triples.proofs.second_of.Statement.{statement}
 use Rattle.triples.proofs.second_of.Tie as tie
 

@@ -1,7 +1,7 @@
 -- The signed reading, cast to the width of an entry.
 -- Assumes nothing.
-use Rattle.triples.proofs.TripleLaws.{signed-is}
 use borrow.Author.Needs.{needs}
+use Rattle.triples.proofs.TripleLaws.{signed-is}
 use Rattle.triples.proofs.signed_of.Statement.{statement}
 use Rattle.triples.proofs.signed_of.Tie as tie
 

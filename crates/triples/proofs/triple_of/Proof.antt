@@ -1,7 +1,7 @@
 -- The triple of two numbers that are picked is the triple picked whole, which is what `annotationOf` says.
 -- Assumes nothing.
-use Rattle.triples.proofs.TripleLaws.{triple-is}
 use borrow.Author.Needs.{needs}
+use Rattle.triples.proofs.TripleLaws.{triple-is}
 use Rattle.triples.proofs.triple_of.Statement.{statement}
 use Rattle.triples.proofs.triple_of.Tie as tie
 

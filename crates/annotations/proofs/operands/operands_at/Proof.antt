@@ -1,7 +1,8 @@
 -- The call reads the opcode that `stepAt` reads, and the tests are its tests, so each return gives its answer there.
 -- Assumes nothing.
-use Rattle.annotations.proofs.StepLaws.{read-cases}
+use native.Mathlib.Omega.{arith}
 use borrow.Author.Needs.{needs}
+use Rattle.annotations.proofs.StepLaws.{read-cases}
 use Rattle.annotations.proofs.operands.operands_at.Statement.{statement}
 use Rattle.annotations.proofs.operands.operands_at.Tie as tie
 
@@ -23,11 +24,11 @@ value-at-requires c κs = search needs
 returns-3 : tie.Need-returns-3
 returns-3 c = search read-cases
 
-add-next : tie.Need-add-next
-add-next c = search needs
+add-place : tie.Need-add-place
+add-place c = search needs
 
 returns-4 : tie.Need-returns-4
-returns-4 c = search read-cases
+returns-4 c = search (read-cases, arith)
 
 operands-of-requires : tie.Need-operands-of-requires
 operands-of-requires c κs = search needs
@@ -45,7 +46,7 @@ operands-at-spec =
     returns-2
     value-at-requires
     returns-3
-    add-next
+    add-place
     returns-4
     operands-of-requires
     returns-5)

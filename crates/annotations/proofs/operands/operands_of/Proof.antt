@@ -1,7 +1,7 @@
 -- The calls read the numbers that `operands` reads, and the test is its test, so each return gives its answer there.
 -- Assumes an opcode of 1 to 13.
-use Rattle.annotations.proofs.StepLaws.{operand-cases}
 use borrow.Author.Needs.{needs}
+use Rattle.annotations.proofs.StepLaws.{operand-cases}
 use Rattle.annotations.proofs.operands.operands_of.Statement.{statement}
 use Rattle.annotations.proofs.operands.operands_of.Tie as tie
 
@@ -32,8 +32,8 @@ returns-2 c = search operand-cases
 value-at-requires-2 : tie.Need-value-at-requires-2
 value-at-requires-2 c κs = search needs
 
-add-next-2 : tie.Need-add-next-2
-add-next-2 c = search needs
+add-after : tie.Need-add-after
+add-after c = search needs
 
 returns-3 : tie.Need-returns-3
 returns-3 c = search operand-cases
@@ -54,6 +54,6 @@ operands-of-spec =
     why-at-requires-2
     returns-2
     value-at-requires-2
-    add-next-2
+    add-after
     returns-3
     returns-4)

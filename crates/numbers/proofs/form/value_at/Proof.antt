@@ -1,7 +1,7 @@
 -- The width tells the form (`FormLaws`), and so which bytes make the value. No number takes three bytes, so four are there.
 -- Assumes that there is a number of this width.
-use Rattle.numbers.proofs.FormLaws.{value-cases, fourth}
 use borrow.Author.Needs.{needs}
+use Rattle.numbers.proofs.FormLaws.{value-cases, fourth}
 use Rattle.numbers.proofs.form.value_at.Statement.{statement}
 use Rattle.numbers.proofs.form.value_at.Tie as tie
 

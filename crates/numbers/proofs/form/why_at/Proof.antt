@@ -1,7 +1,7 @@
 -- A number that is not there is refused with 7 if fewer than four bytes are left, and with 8 otherwise.
 -- Assumes that there is no number.
-use Rattle.numbers.proofs.FormLaws.{why-cases}
 use borrow.Author.Needs.{needs}
+use Rattle.numbers.proofs.FormLaws.{why-cases}
 use Rattle.numbers.proofs.form.why_at.Statement.{statement}
 use Rattle.numbers.proofs.form.why_at.Tie as tie
 

@@ -1,7 +1,7 @@
 -- The tests are those of `numberAt` in the same order, so each return gives the width under the tests passed so far.
 -- Assumes nothing.
-use Rattle.numbers.proofs.FormLaws.{width-cases}
 use borrow.Author.Needs.{needs}
+use Rattle.numbers.proofs.FormLaws.{width-cases}
 use Rattle.numbers.proofs.form.width_at.Statement.{statement}
 use Rattle.numbers.proofs.form.width_at.Tie as tie
 

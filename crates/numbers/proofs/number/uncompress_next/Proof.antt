@@ -1,7 +1,7 @@
 -- The width and the value are the number, and why there is none is the refusal.
 -- Assumes nothing.
-use Rattle.numbers.proofs.NumberLaws.{number-cases}
 use borrow.Author.Needs.{needs}
+use Rattle.numbers.proofs.NumberLaws.{number-cases}
 use Rattle.numbers.proofs.number.uncompress_next.Statement.{statement}
 use Rattle.numbers.proofs.number.uncompress_next.Tie as tie
 
