@@ -73,19 +73,12 @@ fn count_all(bytes: &[u8]) -> CountedAll
     loop {
         let next = skip_at(bytes, at);
         if next == 0 {
-            let s = operands_at(bytes, at);
-            match s {
-                OperandStep::Refused(why) => {
-                    return CountedAll::Refused(why);
-                }
-                OperandStep::End(_) => {
-                    return CountedAll::All(n);
-                }
+            return match operands_at(bytes, at) {
+                OperandStep::Refused(why) => CountedAll::Refused(why),
+                OperandStep::End(_) => CountedAll::All(n),
                 // Not reached: `skip_at` has found no annotation here.
-                OperandStep::Annotation(_) => {
-                    return CountedAll::All(n);
-                }
-            }
+                OperandStep::Annotation(_) => CountedAll::All(n),
+            };
         }
         at = next;
         n += 1;

@@ -42,6 +42,7 @@ fn second_of(opcode: u32, v: u32, w: u32) -> i64
     pick(opcode == 11, signed_of(v / 16), unsigned)
 }
 
+// One of two numbers. Both are there already, so no branch is needed.
 fn pick(test: bool, yes: i64, no: i64) -> i64
     ensures { λ r. ⌜ r ≡ cond test yes no ⌝ }
 {

@@ -22,20 +22,20 @@ skip-at-requires c κs = search needs
 operands-at-requires : tie.Need-operands-at-requires Inv-loop μ-loop
 operands-at-requires c κs = search needs
 
-enum-known-s : tie.Need-enum-known-s Inv-loop μ-loop
-enum-known-s c = search needs
-
-returns : tie.Need-returns Inv-loop μ-loop
-returns c = search count-cases
+enum-known-why : tie.Need-enum-known-why Inv-loop μ-loop
+enum-known-why c = search needs
 
 enum-told : tie.Need-enum-told Inv-loop μ-loop
 enum-told c = search needs
 
-returns-2 : tie.Need-returns-2 Inv-loop μ-loop
-returns-2 c = search count-cases
-
 enum-told-2 : tie.Need-enum-told-2 Inv-loop μ-loop
 enum-told-2 c = search needs
+
+returns : tie.Need-returns Inv-loop μ-loop
+returns c = search count-cases
+
+returns-2 : tie.Need-returns-2 Inv-loop μ-loop
+returns-2 c = search count-cases
 
 returns-3 : tie.Need-returns-3 Inv-loop μ-loop
 returns-3 c = search count-cases
@@ -58,11 +58,11 @@ count-all-spec =
     loop-holds
     skip-at-requires
     operands-at-requires
-    enum-known-s
-    returns
+    enum-known-why
     enum-told
-    returns-2
     enum-told-2
+    returns
+    returns-2
     returns-3
     add-n
     loop-less

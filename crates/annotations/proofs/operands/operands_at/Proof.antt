@@ -1,5 +1,6 @@
 -- The call reads the opcode that `stepAt` reads, and the tests are its tests, so each return gives its answer there.
 -- Assumes nothing.
+use Prim.Native.Nat.{_<_}
 use native.Mathlib.Omega.{arith}
 use borrow.Author.Needs.{needs}
 use Rattle.annotations.proofs.StepLaws.{read-cases}
@@ -28,7 +29,7 @@ add-place : tie.Need-add-place
 add-place c = search needs
 
 returns-4 : tie.Need-returns-4
-returns-4 c = search (read-cases, arith)
+returns-4 c = let unknown : 13 < c .before .before .value-at .result = omega arith in search read-cases
 
 operands-of-requires : tie.Need-operands-of-requires
 operands-of-requires c κs = search needs
