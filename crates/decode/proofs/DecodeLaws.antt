@@ -22,7 +22,7 @@ use Rattle.annotations.specs.Step.{PlacedTriple, Stepped, annotation, end, step
 use Rattle.decode.specs.Decode.{Run, rest, decodeAll, entriesEach, tripleEntries, entries, decodedEntries, counted, decoding}
 use Rattle.decode.specs.Inner.{CountingAll, countedAllIn, whyCountedAll}
 use Rattle.annotations.specs.Inner.{readIn, Reading}
-use Rattle.judging.specs.Inner.{endOf, Skipping, Judged}
+use Rattle.judging.specs.Inner.{endOf, Skipping, Judged, stoppedIn, Stopping}
 use Rattle.decode.specs.Promises.{decodedIn, Decoding}
 use Rattle.annotations.proofs.AnnotationLaws.{stored}
 use Rattle.annotations.proofs.MoveLaws.{Advanced, advanced}
@@ -30,34 +30,32 @@ use Rattle.decode.proofs.RunLaws.{rest-on, rest-end, rest-refused, half
 use Rattle.numbers.specs.declared.refusal.PlacedRefusal.{PlacedRefusal}
 use Rattle.annotations.specs.declared.annotation.Triple.{Triple}
 use Rattle.annotations.specs.declared.operands.Operands.{Operands}
-use Rattle.annotations.specs.declared.operands.OperandStep.{OperandStep}
 use Rattle.annotations.specs.declared.operands.OperandStep.the-variants as read
+use Rattle.judging.specs.declared.stop.Stopped.{Stopped}
+use Rattle.judging.specs.declared.stop.Stopped.the-variants as stopped
 use Rattle.decode.specs.declared.CountedAll.{CountedAll}
 use Rattle.decode.specs.declared.CountedAll.the-variants as judged
 use Rattle.decode.specs.declared.Decoded.the-variants.{Count, Refused, NoRoom}
 
--- ---- what a step's promise says once its variant is known
+-- ---- what a step's promise says
 abbrev tripleOf : Operands → Triple
 tripleOf a = annotationOf (a .opcode) (a .first) (a .second)
 
 abbrev foundIn : Operands → PlacedTriple
 foundIn a = record { triple = tripleOf a; next = a .next }
 
-module _ {s : List ℕ} {at : ℕ} {x : OperandStep} (p : Reading s at x) where
-  stepped : {a : Operands} → x ≡ read.Annotation a → stepAt s at ≡ ok (annotation (foundIn a))
-  unfolding readIn
-  stepped e = sym (p .is .answer) ∙ ap readIn e
+stepped : {s : List ℕ} {at : ℕ} {a : Operands} → Reading s at (read.Annotation a) → stepAt s at ≡ ok (annotation (foundIn a))
+unfolding readIn
+stepped p = sym (p .is .answer)
 
-  ended : {place : ℕ} → x ≡ read.End place → stepAt s at ≡ ok (end place)
-  unfolding readIn
-  ended e = sym (p .is .answer) ∙ ap readIn e
+module _ {s : List ℕ} {at : ℕ} {x : Stopped} (p : Stopping s at x) where
+  ended : {place : ℕ} → x ≡ stopped.End place → stepAt s at ≡ ok (end place)
+  unfolding stoppedIn
+  ended e = sym (p .answer) ∙ ap stoppedIn e
 
-  stopped : {why : PlacedRefusal} → x ≡ read.Refused why → stepAt s at ≡ refused (stopIn why)
-  unfolding readIn
-  stopped e = sym (p .is .answer) ∙ ap readIn e
-
-  step-advanced : {a : Operands} → x ≡ read.Annotation a → Advanced s at (a .next)
-  step-advanced e = advanced s at (stepped e)
+  stopped-by : {why : PlacedRefusal} → x ≡ stopped.Refused why → stepAt s at ≡ refused (stopIn why)
+  unfolding stoppedIn
+  stopped-by e = sym (p .answer) ∙ ap stoppedIn e
 
 -- ---- counting: n annotations are counted, and the rest follow from `at`
 pub record Counted-so-far (s : List ℕ) (at n : ℕ) : Type 0 where
@@ -99,27 +97,19 @@ module _ {s : List ℕ} {at next : ℕ} (k : Skipping s at next) (z : next ≡ 0
         last = rw (skipped .1 .1) (c .last ∙ ap (λ (q : Run). q .last) r);
       }
 
-module _ {s : List ℕ} {at n : ℕ} {x : OperandStep} (c : Counted-so-far s at n) (p : Reading s at x) where
-  -- an annotation ends past place 0
-  pub count-never : {a : Operands} {next : ℕ} {answer : CountedAll} → Skipping s at next → next ≡ 0 → x ≡ read.Annotation a → CountingAll s answer
-  unfolding endOf
-  count-never {a} k z e =
-      let m = step-advanced p e in
-      let g : 0 ≡ a .next = sym z ∙ k .is ∙ rw (stepped p e) in
-      absurd (omega arith)
-
-  pub count-end : {place : ℕ} → x ≡ read.End place → CountingAll s (judged.All n)
+module _ {s : List ℕ} {at n : ℕ} {x : Stopped} (c : Counted-so-far s at n) (p : Stopping s at x) where
+  pub count-end : {place : ℕ} → x ≡ stopped.End place → CountingAll s (judged.All n)
   unfolding countedAllIn _>>_
   count-end e =
       let r = rest-end s at (ended p e) in
       let k : length (decodeAll s .found) ≡ n = omega (arith, c .many ∙ ap (λ (q : Run). n + length (q .found)) r) in
       record { answer = rw (k, c .last, r) }
 
-  pub count-refused : {why : PlacedRefusal} → x ≡ read.Refused why → CountingAll s (judged.Refused why)
+  pub count-refused : {why : PlacedRefusal} → x ≡ stopped.Refused why → CountingAll s (judged.Refused why)
   unfolding countedAllIn _>>_
-  count-refused e = record { answer = rw (c .last, rest-refused s at (stopped p e)) }
+  count-refused e = record { answer = rw (c .last, rest-refused s at (stopped-by p e)) }
 
-pub ruleset count-cases = (skip-less, count-none, count-more, count-never, count-end, count-refused)
+pub ruleset count-cases = (skip-less, count-none, count-more, count-end, count-refused)
 
 -- ---- writing: i entries are written, and writing the rest, of `needed` in all, gives what is wanted
 pub record Written-so-far (s : List ℕ) (st₀ st : List ℤ) (needed at i : ℕ) : Type 0 where
@@ -153,7 +143,7 @@ module _ {s : List ℕ} {st₀ st : List ℤ} {needed at i : ℕ} (w : Written-s
   module _ {a : Operands} (p : Reading s at (read.Annotation a)) {t : Triple} (g : t ≡ tripleOf a) where
     next : entries (rest s at .found) ≡ tripleEntries t ++ entries (rest s (a .next) .found)
     unfolding entries
-    next = rw (rest-on s at (stepped p refl), g)
+    next = rw (rest-on s at (stepped p), g)
 
     pub write-room : i + entriesEach ≤ length st
     write-room = let e = w .left in let h = w .room in omega (arith, rw next at e)

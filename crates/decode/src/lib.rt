@@ -1,11 +1,11 @@
 // Decodes all annotations of a line program into a lent store. The first pass counts them and the second writes them,
 // so a refusal has written nothing.
-use annotations::OperandStep;
 use annotations::Triple;
-use annotations::operands_at;
 use annotations::wide;
+use judging::Stopped;
 use judging::judged_at;
 use judging::skip_at;
+use judging::stop_at;
 use numbers::PlacedRefusal;
 use numbers::Refusal;
 use triples::triple_of;
@@ -73,11 +73,9 @@ fn count_all(bytes: &[u8]) -> CountedAll
     loop {
         let next = skip_at(bytes, at);
         if next == 0 {
-            return match operands_at(bytes, at) {
-                OperandStep::Refused(why) => CountedAll::Refused(why),
-                OperandStep::End(_) => CountedAll::All(n),
-                // Not reached: `skip_at` has found no annotation here.
-                OperandStep::Annotation(_) => CountedAll::All(n),
+            return match stop_at(bytes, at) {
+                Stopped::End(_) => CountedAll::All(n),
+                Stopped::Refused(why) => CountedAll::Refused(why),
             };
         }
         at = next;

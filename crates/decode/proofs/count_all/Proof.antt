@@ -19,26 +19,20 @@ loop-holds c = search count-cases
 skip-at-requires : tie.Need-skip-at-requires Inv-loop μ-loop
 skip-at-requires c κs = search needs
 
-operands-at-requires : tie.Need-operands-at-requires Inv-loop μ-loop
-operands-at-requires c κs = search needs
-
-enum-known-why : tie.Need-enum-known-why Inv-loop μ-loop
-enum-known-why c = search needs
+stop-at-requires : tie.Need-stop-at-requires Inv-loop μ-loop
+stop-at-requires c κs = search needs
 
 enum-told : tie.Need-enum-told Inv-loop μ-loop
 enum-told c = search needs
 
-enum-told-2 : tie.Need-enum-told-2 Inv-loop μ-loop
-enum-told-2 c = search needs
+enum-known-why : tie.Need-enum-known-why Inv-loop μ-loop
+enum-known-why c = search needs
 
 returns : tie.Need-returns Inv-loop μ-loop
 returns c = search count-cases
 
 returns-2 : tie.Need-returns-2 Inv-loop μ-loop
 returns-2 c = search count-cases
-
-returns-3 : tie.Need-returns-3 Inv-loop μ-loop
-returns-3 c = search count-cases
 
 add-n : tie.Need-add-n Inv-loop μ-loop
 add-n c = search needs
@@ -57,13 +51,11 @@ count-all-spec =
     μ-loop
     loop-holds
     skip-at-requires
-    operands-at-requires
-    enum-known-why
+    stop-at-requires
     enum-told
-    enum-told-2
+    enum-known-why
     returns
     returns-2
-    returns-3
     add-n
     loop-less
     loop-again)

@@ -2,8 +2,8 @@
 -- reads. Assumes that an annotation stands there.
 use borrow.Author.Needs.{needs}
 use Rattle.judging.proofs.JudgedLaws.{opcode-there, first-there, second-there, judged-cases}
-use Rattle.judging.proofs.judged_at.Statement.{statement}
-use Rattle.judging.proofs.judged_at.Tie as tie
+use Rattle.judging.proofs.judged.judged_at.Statement.{statement}
+use Rattle.judging.proofs.judged.judged_at.Tie as tie
 
 width-at-requires : tie.Need-width-at-requires
 width-at-requires c κs = search needs
