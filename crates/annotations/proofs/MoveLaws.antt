@@ -10,11 +10,11 @@ use Rattle.outcome.specs.Outcome.{Outcome, ok, refused, _>>=_, _>>_, require}
 use Rattle.outcome.proofs.OutcomeLaws.{by-test}
 use Rattle.numbers.specs.Refusal.{Stop}
 use Rattle.numbers.specs.Number.{numberAt}
-use Rattle.numbers.proofs.MoveLaws.{NumberMoves, value, none, number-moves}
+use Rattle.numbers.proofs.MoveLaws.{number-in}
 use Rattle.annotations.specs.Step.{PlacedTriple, Stepped, annotation, end, operands, stepAt}
 use Rattle.numbers.specs.declared.number.Number.{Number}
 
--- (By `data`, as `NumberMoves` is.)
+-- (A `data` type, as `Form` of numbers is.)
 pub data StepMoves (s : List ℕ) (from : ℕ) : Outcome Stop Stepped → Type 0 where
   found : {x : PlacedTriple} → from + 2 ≤ x .next → x .next ≤ length s → StepMoves s from (ok (annotation x))
   ended : {p : ℕ} → StepMoves s from (ok (end p))
@@ -24,11 +24,11 @@ module _ {s : List ℕ} (from : ℕ) where
   -- a number is read and the step goes on: it ends where the rest ends
   after-number : (at : ℕ) (k : Number → Outcome Stop Stepped) → ((n : Number) → at < n .next → n .next ≤ length s → StepMoves s from (k n)) → StepMoves s from (numberAt s at >>= k)
   unfolding _>>=_
-  after-number at k h = go (numberAt s at) (number-moves s at)
+  after-number at k h = go (numberAt s at) refl
     where
-      go : (r : Outcome Stop Number) → NumberMoves s at r → StepMoves s from (r >>= k)
-      go _ (value l m) = h _ l m
-      go _ none = stopped
+      go : (r : Outcome Stop Number) → numberAt s at ≡ r → StepMoves s from (r >>= k)
+      go (ok n) e = let m = number-in s at e in h n (m .0) (m .1)
+      go (refused why) e = stopped
 
   after-test : (b : Bool) (why : Stop) {k : Outcome Stop Stepped} → StepMoves s from k → StepMoves s from (require b why >> k)
   unfolding require _>>_

@@ -17,47 +17,45 @@ use Rattle.outcome.specs.Store.{written}
 use Rattle.numbers.specs.Refusal.{Stop, stopIn}
 use Rattle.outcome.proofs.OutcomeLaws.{ok-refused}
 use Rattle.store.proofs.SetsLaws.{sets-append}
-use Rattle.annotations.specs.Annotation.{tripleIn}
-use Rattle.annotations.specs.Step.{PlacedTriple, annotation, end, stepAt}
+use Rattle.annotations.specs.Annotation.{annotationOf}
+use Rattle.annotations.specs.Step.{PlacedTriple, Stepped, annotation, end, stepAt}
 use Rattle.decode.specs.Decode.{Run, rest, decodeAll, entriesEach, tripleEntries, entries, decodedEntries, counted, decoding}
 use Rattle.decode.specs.Inner.{CountingAll, countedAllIn, whyCountedAll}
-use Rattle.annotations.specs.Promises.{stepIn, Stepping}
+use Rattle.annotations.specs.Inner.{readIn, Reading}
+use Rattle.judging.specs.Inner.{endOf, Skipping, Judged, stoppedIn, Stopping}
 use Rattle.decode.specs.Promises.{decodedIn, Decoding}
 use Rattle.annotations.proofs.AnnotationLaws.{stored}
 use Rattle.annotations.proofs.MoveLaws.{Advanced, advanced}
 use Rattle.decode.proofs.RunLaws.{rest-on, rest-end, rest-refused, half}
 use Rattle.numbers.specs.declared.refusal.PlacedRefusal.{PlacedRefusal}
 use Rattle.annotations.specs.declared.annotation.Triple.{Triple}
-use Rattle.annotations.specs.declared.step.Annotated.{Annotated}
-use Rattle.annotations.specs.declared.step.Step.{Step}
-use Rattle.annotations.specs.declared.step.Step.the-variants as step
+use Rattle.annotations.specs.declared.operands.Operands.{Operands}
+use Rattle.annotations.specs.declared.operands.OperandStep.the-variants as read
+use Rattle.judging.specs.declared.stop.Stopped.{Stopped}
+use Rattle.judging.specs.declared.stop.Stopped.the-variants as stopped
 use Rattle.decode.specs.declared.CountedAll.{CountedAll}
 use Rattle.decode.specs.declared.CountedAll.the-variants as judged
 use Rattle.decode.specs.declared.Decoded.the-variants.{Count, Refused, NoRoom}
 
--- ---- what a step's promise says once its variant is known
-abbrev foundIn : Annotated → PlacedTriple
-foundIn a = record { triple = tripleIn (a .annotation); next = a .next }
+-- ---- what a step's promise says
+abbrev tripleOf : Operands → Triple
+tripleOf a = annotationOf (a .opcode) (a .first) (a .second)
 
-module _ {s : List ℕ} {at : ℕ} {x : Step} (p : Stepping s at x) where
-  stepped : {a : Annotated} → x ≡ step.Annotation a → stepAt s at ≡ ok (annotation (foundIn a))
-  unfolding stepIn
-  stepped e = sym (p .answer) ∙ ap stepIn e
+abbrev foundIn : Operands → PlacedTriple
+foundIn a = record { triple = tripleOf a; next = a .next }
 
-  ended : {place : ℕ} → x ≡ step.End place → stepAt s at ≡ ok (end place)
-  unfolding stepIn
-  ended e = sym (p .answer) ∙ ap stepIn e
+stepped : {s : List ℕ} {at : ℕ} {a : Operands} → Reading s at (read.Annotation a) → stepAt s at ≡ ok (annotation (foundIn a))
+unfolding readIn
+stepped p = sym (p .is .answer)
 
-  stopped : {why : PlacedRefusal} → x ≡ step.Refused why → stepAt s at ≡ refused (stopIn why)
-  unfolding stepIn
-  stopped e = sym (p .answer) ∙ ap stepIn e
+module _ {s : List ℕ} {at : ℕ} {x : Stopped} (p : Stopping s at x) where
+  ended : {place : ℕ} → x ≡ stopped.End place → stepAt s at ≡ ok (end place)
+  unfolding stoppedIn
+  ended e = sym (p .answer) ∙ ap stoppedIn e
 
-  step-advanced : {a : Annotated} → x ≡ step.Annotation a → Advanced s at (a .next)
-  step-advanced e = advanced s at (stepped e)
-
-  -- fewer bytes are left
-  pub step-less : {a : Annotated} → x ≡ step.Annotation a → length s - a .next < length s - at
-  step-less e = let m = step-advanced e in omega arith
+  stopped-by : {why : PlacedRefusal} → x ≡ stopped.Refused why → stepAt s at ≡ refused (stopIn why)
+  unfolding stoppedIn
+  stopped-by e = sym (p .answer) ∙ ap stoppedIn e
 
 -- ---- counting: n annotations are counted, and the rest follow from `at`
 pub record Counted-so-far (s : List ℕ) (at n : ℕ) : Type 0 where
@@ -70,67 +68,102 @@ pub count-none : (s : List ℕ) → Counted-so-far s 0 0
 unfolding decodeAll
 count-none s = record { few = omega arith; within = omega arith; many = omega arith; last = refl }
 
-module _ {s : List ℕ} {at n : ℕ} {x : Step} (c : Counted-so-far s at n) (p : Stepping s at x) where
-  pub count-more : {a : Annotated} → x ≡ step.Annotation a → Counted-so-far s (a .next) (n + 1)
-  count-more e =
-      let m = step-advanced p e in
-      let r = rest-on s at (stepped p e) in
+-- a place that is skipped to is the one after an annotation
+skips : (o : Outcome Stop Stepped) → (endOf o ≡ 0 → ⊥) → (x : PlacedTriple) × ((o ≡ ok (annotation x)) × (endOf o ≡ x .next))
+unfolding endOf
+skips (ok (annotation x)) h = (x, (refl, refl))
+skips (ok (end place)) h = absurd (h refl)
+skips (refused why) h = absurd (h refl)
+
+module _ {s : List ℕ} {at next : ℕ} (k : Skipping s at next) (z : next ≡ 0 → ⊥) where
+  skipped : (x : PlacedTriple) × ((stepAt s at ≡ ok (annotation x)) × (next ≡ x .next))
+  skipped = let p = skips (stepAt s at) (λ e. z (k .is ∙ e)) in (p .0, (p .1 .0, k .is ∙ p .1 .1))
+
+  skip-advanced : Advanced s at next
+  skip-advanced = rw (skipped .1 .1) (advanced s at (skipped .1 .0))
+
+  -- fewer bytes are left
+  pub skip-less : length s - next < length s - at
+  skip-less = let m = skip-advanced in omega arith
+
+  pub count-more : {n : ℕ} → Counted-so-far s at n → Counted-so-far s next (n + 1)
+  count-more {n} c =
+      let m = skip-advanced in
+      let r = rest-on s at (skipped .1 .0) in
       record {
         few = omega (arith, c .few);
         within = m .within;
-        many = omega (arith, c .many ∙ ap (λ (q : Run). n + length (q .found)) r);
-        last = c .last ∙ ap (λ (q : Run). q .last) r;
+        many = rw (skipped .1 .1) (omega (arith, c .many ∙ ap (λ (q : Run). n + length (q .found)) r));
+        last = rw (skipped .1 .1) (c .last ∙ ap (λ (q : Run). q .last) r);
       }
 
-  pub count-end : {place : ℕ} → x ≡ step.End place → CountingAll s (judged.All n)
+module _ {s : List ℕ} {at n : ℕ} {x : Stopped} (c : Counted-so-far s at n) (p : Stopping s at x) where
+  pub count-end : {place : ℕ} → x ≡ stopped.End place → CountingAll s (judged.All n)
   unfolding countedAllIn _>>_
   count-end e =
       let r = rest-end s at (ended p e) in
       let k : length (decodeAll s .found) ≡ n = omega (arith, c .many ∙ ap (λ (q : Run). n + length (q .found)) r) in
       record { answer = rw (k, c .last, r) }
 
-  pub count-refused : {why : PlacedRefusal} → x ≡ step.Refused why → CountingAll s (judged.Refused why)
+  pub count-refused : {why : PlacedRefusal} → x ≡ stopped.Refused why → CountingAll s (judged.Refused why)
   unfolding countedAllIn _>>_
-  count-refused e = record { answer = rw (c .last, rest-refused s at (stopped p e)) }
+  count-refused e = record { answer = rw (c .last, rest-refused s at (stopped-by p e)) }
 
-pub ruleset count-cases = (step-less, count-none, count-more, count-end, count-refused)
+pub ruleset count-cases = (skip-less, count-none, count-more, count-end, count-refused)
 
--- ---- writing: i entries are written, and writing the rest gives what is wanted
-pub record Written-so-far (s : List ℕ) (st₀ st : List ℤ) (at i : ℕ) : Type 0 where
+-- ---- writing: i entries are written, and writing the rest, of `needed` in all, gives what is wanted
+pub record Written-so-far (s : List ℕ) (st₀ st : List ℤ) (needed at i : ℕ) : Type 0 where
   pub same : length st ≡ length st₀
   pub wanted : sets st i (entries (rest s at .found)) ≡ sets st₀ 0 (decodedEntries s)
-  pub room : i + length (entries (rest s at .found)) ≤ length st
+  pub left : i + length (entries (rest s at .found)) ≡ needed
+  pub room : needed ≤ length st
 
-pub write-none : (s : List ℕ) (st : List ℤ) → length (decodedEntries s) ≤ length st → Written-so-far s st st 0 0
+pub write-none : (s : List ℕ) (st : List ℤ) {needed : ℕ} → needed ≡ length (decodedEntries s) → needed ≤ length st → Written-so-far s st st needed 0 0
 unfolding decodeAll
-write-none s st h = record { same = refl; wanted = refl; room = omega arith }
+write-none s st e h = record { same = refl; wanted = refl; left = omega arith; room = h }
 
-module _ {s : List ℕ} {st₀ st : List ℤ} {at i : ℕ} {x : Step} (w : Written-so-far s st₀ st at i) (p : Stepping s at x) where
-  module _ {a : Annotated} (e : x ≡ step.Annotation a) {t : Triple} (g : t ≡ tripleIn (a .annotation)) where
+-- where entries are left an annotation stands
+left-there : (s : List ℕ) (at : ℕ) → 0 < length (entries (rest s at .found)) → Judged s at
+unfolding entries endOf
+left-there s at h = record { there = go (stepAt s at) refl }
+  where
+    go : (o : Outcome Stop Stepped) → stepAt s at ≡ o → endOf o ≡ 0 → ⊥
+    go (ok (annotation x)) e z = let m = advanced s at e in omega arith
+    go (ok (end place)) e z = let k = rw (rest-end s at e) at h in omega arith
+    go (refused why) e z = let k = rw (rest-refused s at e) at h in omega arith
+
+none-left : (l : List ℤ) → length l ≡ 0 → l ≡ []
+none-left [] e = refl
+none-left (x ∷ l) e = absurd (omega arith)
+
+module _ {s : List ℕ} {st₀ st : List ℤ} {needed at i : ℕ} (w : Written-so-far s st₀ st needed at i) where
+  pub write-there : i < needed → Judged s at
+  write-there l = left-there s at (let e = w .left in omega arith)
+
+  module _ {a : Operands} (p : Reading s at (read.Annotation a)) {t : Triple} (g : t ≡ tripleOf a) where
     next : entries (rest s at .found) ≡ tripleEntries t ++ entries (rest s (a .next) .found)
     unfolding entries
-    next = rw (rest-on s at (stepped p e), g)
+    next = rw (rest-on s at (stepped p), g)
 
     pub write-room : i + entriesEach ≤ length st
-    write-room = let h = w .room in omega (arith, rw next at h)
+    write-room = let e = w .left in let h = w .room in omega (arith, rw next at e)
 
-    pub write-more : {st′ : List ℤ} → st′ ≡ sets st i (tripleEntries t) → Written-so-far s st₀ st′ (a .next) (i + entriesEach)
+    pub write-more : {st′ : List ℤ} → st′ ≡ sets st i (tripleEntries t) → Written-so-far s st₀ st′ needed (a .next) (i + entriesEach)
     write-more k =
         record {
           same = rw (k, length-sets) (w .same);
           wanted = rw k (sets-append (tripleEntries t) (entries (rest s (a .next) .found)) st i ∙ rw next at (w .wanted));
-          room = let h = w .room in rw (k, length-sets) (omega (arith, rw next at h));
+          left = let e = w .left in omega (arith, rw next at e);
+          room = rw (k, length-sets) (w .room);
         }
 
-  pub write-end : {place : ℕ} → x ≡ step.End place → st ≡ sets st₀ 0 (decodedEntries s)
-  unfolding entries
-  write-end e = rw (rest-end s at (ended p e)) at (w .wanted)
+  pub write-end : needed ≤ i → st ≡ sets st₀ 0 (decodedEntries s)
+  write-end l =
+      let e = w .left in
+      let n : length (entries (rest s at .found)) ≡ 0 = omega arith in
+      rw (none-left (entries (rest s at .found)) n) at (w .wanted)
 
-  pub write-refused : {why : PlacedRefusal} → x ≡ step.Refused why → st ≡ sets st₀ 0 (decodedEntries s)
-  unfolding entries
-  write-refused e = rw (rest-refused s at (stopped p e)) at (w .wanted)
-
-pub ruleset write-cases = (step-less, write-none, write-room, write-more, write-end, write-refused)
+pub ruleset write-cases = (write-none, write-there, write-room, write-more, write-end)
 
 -- the stores of `put`, one for each entry
 pub put-is : (st : List ℤ) (at : ℕ) (y z : ℤ) {x w : ℤ} → x ≡ w → mag x < 2 ^ 63 → mag y < 2 ^ 63 → mag z < 2 ^ 63 → set (set (set st at (toZ w64 (ofZ w64 x))) (at + 1) (toZ w64 (ofZ w64 y))) (at + 2) (toZ w64 (ofZ w64 z)) ≡ sets st at (w ∷ y ∷ z ∷ [])
@@ -171,10 +204,11 @@ module _ (s : List ℕ) (store : List ℤ) {c : CountedAll} (p : CountingAll s c
     no-room l =
         record { answer = rw (counts, lt-leb (entriesEach * n) (length store) l); after = rw (counts, lt-leb (entriesEach * n) (length store) l) }
 
-    module _ (l : entriesEach * n ≤ length store) where
-      pub room : length (decodedEntries s) ≤ length store
-      room = rw (length-entries, ← is-count) l
+    -- the entries needed are the entries that there are
+    pub all-needed : entriesEach * n ≡ length (decodedEntries s)
+    all-needed = rw (length-entries, ← is-count)
 
+    module _ (l : entriesEach * n ≤ length store) where
       pub decoded : {store′ : List ℤ} → store′ ≡ sets store 0 (decodedEntries s) → Decoding s store (Count n) store′
       unfolding decoding decodedIn written raise require _>>=_ _>>_
       decoded f =

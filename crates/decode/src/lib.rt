@@ -1,11 +1,14 @@
 // Decodes all annotations of a line program into a lent store. The first pass counts them and the second writes them,
 // so a refusal has written nothing.
-use annotations::Step;
 use annotations::Triple;
-use annotations::step_at;
 use annotations::wide;
+use judging::Stopped;
+use judging::judged_at;
+use judging::skip_at;
+use judging::stop_at;
 use numbers::PlacedRefusal;
 use numbers::Refusal;
+use triples::triple_of;
 ghost use mathlib.Core.Path.{_≡_};
 ghost use Prim.Native.Nat.{_+_, _≤_};
 ghost use lib.ListN.{length};
@@ -57,56 +60,42 @@ pub fn decode_all(bytes: &[u8], store: &mut [i64]) -> Decoded
     if store.len() < needed {
         return Decoded::NoRoom(needed);
     }
-    write_all(bytes, store);
+    write_all(bytes, store, needed);
     Decoded::Count(n)
 }
 
-// Counts the annotations before the end, unless a step is refused.
+// Counts the annotations before the end, unless a step is refused. Nothing is read but what judging needs.
 fn count_all(bytes: &[u8]) -> CountedAll
     ensures { λ r. ⌜ CountingAll (now (bytes .entry)) r ⌝ }
 {
     let mut at: usize = 0;
     let mut n: usize = 0;
     loop {
-        let s = step_at(bytes, at);
-        match s {
-            Step::Annotation(a) => {
-                at = a.next;
-                n += 1;
-            }
-            Step::End(_) => {
-                return CountedAll::All(n);
-            }
-            Step::Refused(why) => {
-                return CountedAll::Refused(why);
-            }
+        let next = skip_at(bytes, at);
+        if next == 0 {
+            return match stop_at(bytes, at) {
+                Stopped::End(_) => CountedAll::All(n),
+                Stopped::Refused(why) => CountedAll::Refused(why),
+            };
         }
+        at = next;
+        n += 1;
     }
 }
 
-// Writes the entries of all annotations from the front. The caller guarantees room for them.
-fn write_all(bytes: &[u8], store: &mut [i64])
-    requires { ⌜ length (decodedEntries (now bytes)) ≤ length (now store) ⌝ }
+// Writes the entries of all annotations from the front: `needed` of them, for which the caller guarantees room.
+fn write_all(bytes: &[u8], store: &mut [i64], needed: usize)
+    requires { ⌜ needed ≡ length (decodedEntries (now bytes)) ⌝ }
+    requires { ⌜ needed ≤ length (now store) ⌝ }
     ensures { λ r. ⌜ now (store .exit) ≡ sets (now (store .entry)) 0 (decodedEntries (now (bytes .entry))) ⌝ }
 {
     let mut at: usize = 0;
     let mut i: usize = 0;
-    loop {
-        let s = step_at(bytes, at);
-        match s {
-            Step::Annotation(a) => {
-                let annotation = a.annotation;
-                put(store, i, annotation.triple());
-                at = a.next;
-                i += ENTRIES_EACH;
-            }
-            Step::End(_) => {
-                return;
-            }
-            Step::Refused(_) => {
-                return;
-            }
-        }
+    while i < needed {
+        let a = judged_at(bytes, at);
+        put(store, i, triple_of(a.opcode, a.first, a.second));
+        at = a.next;
+        i += ENTRIES_EACH;
     }
 }
 

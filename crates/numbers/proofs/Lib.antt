@@ -1,2 +1,3 @@
+pub mod FormLaws
 pub mod NumberLaws
 pub mod MoveLaws

@@ -1,19 +1,31 @@
 -- What inner functions promise their callers. None of it is part of an operation's own promise.
 use mathlib.Core.Path.{_≡_}
 use mathlib.Core.List.{List}
-use Prim.Native.Nat.{ℕ, _<_}
-use lib.ListN.{getD}
-use Rattle.numbers.specs.declared.refusal.Refusal.the-variants.{ShortData}
+use Prim.Native.Nat.{ℕ, _+_, _-_, _≤_, _<_}
+use lib.ListN.{length, getD}
+use Rattle.outcome.specs.Outcome.{Outcome, ok, refused}
+use Rattle.numbers.specs.Refusal.{Stop, stopIn}
+use Rattle.numbers.specs.Number.{numberAt}
 use Rattle.numbers.specs.declared.refusal.PlacedRefusal.{PlacedRefusal}
-use Rattle.numbers.specs.declared.number.Uncompressed.{Uncompressed}
-use Rattle.numbers.specs.declared.number.Uncompressed.the-variants.{Value, Refused}
+use Rattle.numbers.specs.declared.number.Number.{Number}
 
 -- b is the byte at a place
 pub record Byte (s : List ℕ) (at b : ℕ) : Type 0 where
   pub is : b ≡ getD s at 0
   pub small : b < 256
 
--- why there is no number. Callers ask it of a refusal only
-abbrev pub whyUncompressed : Uncompressed → PlacedRefusal
-whyUncompressed (Refused why) = why
-whyUncompressed (Value n) = record { refusal = ShortData; place = 0 }
+-- how many bytes a number that was read from a place takes; 0 if there is none
+unfoldable pub widthOf : ℕ → Outcome Stop Number → ℕ
+widthOf at (ok n) = n .next - at
+widthOf at (refused why) = 0
+
+pub record Width (s : List ℕ) (at width : ℕ) : Type 0 where
+  pub is : width ≡ widthOf at (numberAt s at)
+  pub within : width ≤ length s - at
+
+-- the value of a number that takes `width` bytes
+pub record Value (s : List ℕ) (at width value : ℕ) : Type 0 where
+  pub is : numberAt s at ≡ ok (record { value = value; next = at + width })
+
+pub record Why (s : List ℕ) (at : ℕ) (why : PlacedRefusal) : Type 0 where
+  pub is : numberAt s at ≡ refused (stopIn why)

@@ -6,20 +6,20 @@ use Prim.Native.Nat.{ℕ}
 use lib.IntN.{ℤ, pos}
 use Rattle.outcome.specs.Outcome.{ok, refused, raise}
 use Rattle.numbers.specs.Refusal.{stopIn, refusalIn}
-use Rattle.annotations.specs.Annotation.{tripleIn}
+use Rattle.annotations.specs.Annotation.{annotationOf}
 use Rattle.annotations.specs.Step.{annotation, end}
 use Rattle.decode.specs.Decode.{withPlace, noRoom}
 use Rattle.numbers.specs.Promises.{uncompressedIn, Uncompressing}
-use Rattle.annotations.specs.Promises.{stepIn, Stepping}
+use Rattle.annotations.specs.Inner.{readIn, Reading}
 use Rattle.decode.specs.Promises.{decodedIn, Decoding}
 use Rattle.numbers.specs.declared.refusal.PlacedRefusal.{PlacedRefusal}
 use Rattle.annotations.specs.declared.annotation.Triple.{Triple}
 use Rattle.numbers.specs.declared.number.Number.{Number}
 use Rattle.numbers.specs.declared.number.Uncompressed.{Uncompressed}
 use Rattle.numbers.specs.declared.number.Uncompressed.the-variants as uncompressed
-use Rattle.annotations.specs.declared.step.Annotated.{Annotated}
-use Rattle.annotations.specs.declared.step.Step.{Step}
-use Rattle.annotations.specs.declared.step.Step.the-variants as step
+use Rattle.annotations.specs.declared.operands.Operands.{Operands}
+use Rattle.annotations.specs.declared.operands.OperandStep.{OperandStep}
+use Rattle.annotations.specs.declared.operands.OperandStep.the-variants as read
 use Rattle.decode.specs.declared.Decoded.{Decoded}
 use Rattle.decode.specs.declared.Decoded.the-variants as decoded
 use Rattle.trovespan.specs.Crossing.{told, opcodeOf, firstOf, secondOf, nextOf, placeOr0}
@@ -42,23 +42,23 @@ module _ {s : List ℕ} {at : ℕ} {r : Uncompressed} (p : Uncompressing s at r)
 pub ruleset number-cases = (numbers-value, numbers-refused)
 
 -- ---- `trovespan_step`
-module _ {s : List ℕ} {at : ℕ} {r : Step} (p : Stepping s at r) where
-  pub steps-annotation : {a : Annotated} {t : Triple} {x y : ℤ} → r ≡ step.Annotation a → t ≡ tripleIn (a .annotation) → x ≡ t .first → y ≡ t .second → Steps s at 0 (t .opcode) x y (a .next)
-  unfolding told raise stepIn opcodeOf firstOf secondOf nextOf
+module _ {s : List ℕ} {at : ℕ} {r : OperandStep} (p : Reading s at r) where
+  pub steps-annotation : {a : Operands} {t : Triple} {x y : ℤ} → r ≡ read.Annotation a → t ≡ annotationOf (a .opcode) (a .first) (a .second) → x ≡ t .first → y ≡ t .second → Steps s at 0 (t .opcode) x y (a .next)
+  unfolding told raise readIn opcodeOf firstOf secondOf nextOf
   steps-annotation {a} {t} e is x y =
-      let k : _ ≡ ok (annotation (record { triple = t; next = a .next })) = sym (p .answer) ∙ ap stepIn e ∙ rw is in
+      let k : _ ≡ ok (annotation (record { triple = t; next = a .next })) = sym (p .is .answer) ∙ ap readIn e ∙ rw is in
       record { answer = record { number = rw k; value = rw k }; first-told = rw k x; second-told = rw k y; next-told = rw k }
 
-  pub steps-end : {place : ℕ} → r ≡ step.End place → Steps s at 0 0 (pos 0) (pos 0) place
-  unfolding told raise stepIn opcodeOf firstOf secondOf nextOf
+  pub steps-end : {place : ℕ} → r ≡ read.End place → Steps s at 0 0 (pos 0) (pos 0) place
+  unfolding told raise readIn opcodeOf firstOf secondOf nextOf
   steps-end {place} e =
-      let k : _ ≡ ok (end place) = sym (p .answer) ∙ ap stepIn e in
+      let k : _ ≡ ok (end place) = sym (p .is .answer) ∙ ap readIn e in
       record { answer = record { number = rw k; value = rw k }; first-told = rw k; second-told = rw k; next-told = rw k }
 
-  pub steps-refused : {why : PlacedRefusal} {n v : ℕ} → r ≡ step.Refused why → n ≡ refusalIn (why .refusal) .number → v ≡ refusalIn (why .refusal) .value → Steps s at n v (pos 0) (pos 0) (why .place)
-  unfolding told raise stepIn
+  pub steps-refused : {why : PlacedRefusal} {n v : ℕ} → r ≡ read.Refused why → n ≡ refusalIn (why .refusal) .number → v ≡ refusalIn (why .refusal) .value → Steps s at n v (pos 0) (pos 0) (why .place)
+  unfolding told raise readIn
   steps-refused {why} e n v =
-      let k : _ ≡ refused (stopIn why) = sym (p .answer) ∙ ap stepIn e in
+      let k : _ ≡ refused (stopIn why) = sym (p .is .answer) ∙ ap readIn e in
       record { answer = record { number = rw k n; value = rw k v }; first-told = rw k; second-told = rw k; next-told = rw k }
 
 pub ruleset step-cases = (steps-annotation, steps-end, steps-refused)

@@ -4,8 +4,8 @@
 // Each function returns 0 on success, else the refusal's number in document 01's table. It writes its other results to
 // the numbers that it is lent: on a refusal `value` is the refusal's value, and a number that has nothing to say is 0.
 // The caller guarantees that what it lends is there and does not overlap, and nothing else.
-use annotations::Step;
-use annotations::step_at;
+use annotations::OperandStep;
+use annotations::operands_at;
 use decode::Decoded;
 use decode::decode_all;
 use msf::Counted;
@@ -16,6 +16,7 @@ use msf::Opened;
 use msf::StreamNumber;
 use numbers::Uncompressed;
 use numbers::uncompress_next;
+use triples::triple_of;
 ghost use mathlib.Core.Path.{_≡_};
 ghost use lib.ListN.{length};
 ghost use Rattle.parse_buffer.specs.Bytes.{byteAt};
@@ -167,10 +168,9 @@ pub extern "C" fn trovespan_step(
         Steps (now (bytes .entry)) at r (now (value .exit)) (now (first .exit)) (now (second .exit)) (now (next .exit))
         ⌝ }
 {
-    match step_at(bytes, at) {
-        Step::Annotation(a) => {
-            let annotation = a.annotation;
-            let t = annotation.triple();
+    match operands_at(bytes, at) {
+        OperandStep::Annotation(a) => {
+            let t = triple_of(a.opcode, a.first, a.second);
             let left = t.first;
             let right = t.second;
             *value = t.opcode as u64;
@@ -179,14 +179,14 @@ pub extern "C" fn trovespan_step(
             *next = a.next as u64;
             ACCEPTED
         }
-        Step::End(place) => {
+        OperandStep::End(place) => {
             *value = 0;
             *first = 0;
             *second = 0;
             *next = place as u64;
             ACCEPTED
         }
-        Step::Refused(why) => {
+        OperandStep::Refused(why) => {
             let refusal = why.refusal;
             *value = refusal.value();
             *first = 0;

@@ -16,11 +16,23 @@ abbrev μ-loop : tie.MeasureT-loop
 loop-holds : tie.Need-loop-holds Inv-loop μ-loop
 loop-holds c = search count-cases
 
-step-at-requires : tie.Need-step-at-requires Inv-loop μ-loop
-step-at-requires c κs = search needs
+skip-at-requires : tie.Need-skip-at-requires Inv-loop μ-loop
+skip-at-requires c κs = search needs
 
-enum-known-s : tie.Need-enum-known-s Inv-loop μ-loop
-enum-known-s c = search needs
+stop-at-requires : tie.Need-stop-at-requires Inv-loop μ-loop
+stop-at-requires c κs = search needs
+
+enum-told : tie.Need-enum-told Inv-loop μ-loop
+enum-told c = search needs
+
+enum-known-why : tie.Need-enum-known-why Inv-loop μ-loop
+enum-known-why c = search needs
+
+returns : tie.Need-returns Inv-loop μ-loop
+returns c = search count-cases
+
+returns-2 : tie.Need-returns-2 Inv-loop μ-loop
+returns-2 c = search count-cases
 
 add-n : tie.Need-add-n Inv-loop μ-loop
 add-n c = search needs
@@ -31,18 +43,6 @@ loop-less c = search count-cases
 loop-again : tie.Need-loop-again Inv-loop μ-loop
 loop-again c = search count-cases
 
-enum-told : tie.Need-enum-told Inv-loop μ-loop
-enum-told c = search needs
-
-returns : tie.Need-returns Inv-loop μ-loop
-returns c = search count-cases
-
-enum-known-s-2 : tie.Need-enum-known-s-2 Inv-loop μ-loop
-enum-known-s-2 c = search needs
-
-returns-2 : tie.Need-returns-2 Inv-loop μ-loop
-returns-2 c = search count-cases
-
 pub count-all-spec : {M : Type 1} → statement M
 count-all-spec =
     tie.close
@@ -50,12 +50,12 @@ count-all-spec =
     Inv-loop
     μ-loop
     loop-holds
-    step-at-requires
-    enum-known-s
+    skip-at-requires
+    stop-at-requires
+    enum-told
+    enum-known-why
+    returns
+    returns-2
     add-n
     loop-less
-    loop-again
-    enum-told
-    returns
-    enum-known-s-2
-    returns-2)
+    loop-again)

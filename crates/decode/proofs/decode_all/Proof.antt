@@ -2,7 +2,7 @@
 -- store. The entries needed fit a usize, since there are at most half as many annotations as bytes. Assumes nothing.
 use native.Mathlib.Omega.{arith}
 use borrow.Author.Needs.{needs}
-use Rattle.decode.proofs.DecodeLaws.{decode-cases, room, few}
+use Rattle.decode.proofs.DecodeLaws.{decode-cases, all-needed, few}
 use Rattle.decode.proofs.decode_all.Statement.{statement}
 use Rattle.decode.proofs.decode_all.Tie as tie
 
@@ -28,7 +28,7 @@ returns-2 : tie.Need-returns-2
 returns-2 c = search decode-cases
 
 write-all-requires : tie.Need-write-all-requires
-write-all-requires c κs = search room
+write-all-requires c κs = search all-needed
 
 same-length : tie.Need-same-length
 same-length c = search needs

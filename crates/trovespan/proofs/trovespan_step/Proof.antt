@@ -1,4 +1,4 @@
--- `step_at` promises the answer of `stepAt`. Each arm knows the variant and writes its numbers as `Steps` says. A
+-- `operands_at` promises the answer of `stepAt`. Each arm knows the variant and writes its numbers as `Steps` says. A
 -- signed number that was stored is read back as it was (`toZ-ofZ`). Assumes nothing.
 use borrow.Author.Needs.{needs}
 use mir.Facts.{toZ-ofZ}
@@ -6,14 +6,14 @@ use Rattle.trovespan.proofs.AnnotationLaws.{step-cases}
 use Rattle.trovespan.proofs.trovespan_step.Statement.{statement}
 use Rattle.trovespan.proofs.trovespan_step.Tie as tie
 
-step-at-requires : tie.Need-step-at-requires
-step-at-requires c κs = search needs
+operands-at-requires : tie.Need-operands-at-requires
+operands-at-requires c κs = search needs
 
 enum-known-a : tie.Need-enum-known-a
 enum-known-a c = search needs
 
-triple-requires : tie.Need-triple-requires
-triple-requires c κs = search needs
+triple-of-requires : tie.Need-triple-of-requires
+triple-of-requires c κs = search needs
 
 cast-value : tie.Need-cast-value
 cast-value c = search needs
@@ -43,9 +43,9 @@ pub trovespan-step-spec : {M : Type 1} → statement M
 trovespan-step-spec =
     tie.close
     (tie.spec
-    step-at-requires
+    operands-at-requires
     enum-known-a
-    triple-requires
+    triple-of-requires
     cast-value
     enum-known-place
     enum-known-why

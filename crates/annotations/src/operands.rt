@@ -1,0 +1,85 @@
+// An opcode and its operands as they stand in the bytes: the one walk over an annotation. `step_at` makes a variant of
+// them, decoding and the boundary the three numbers that a store holds.
+use numbers::PlacedRefusal;
+use numbers::Refusal;
+use numbers::value_at;
+use numbers::why_at;
+use numbers::width_at;
+ghost use Prim.Native.Nat.{_≤_};
+ghost use Rattle.annotations.specs.Step.{operands};
+ghost use Rattle.annotations.specs.Inner.{ReadAs, Reading};
+
+// An opcode of 1 to 13, its operands as they were read, and the place after them. Only 12 has the second one.
+pub struct Operands {
+    pub opcode: u32,
+    pub first: u32,
+    pub second: u32,
+    pub next: usize,
+}
+
+// What a step reads, always with the place after it.
+pub enum OperandStep {
+    Annotation(Operands),
+    End(usize),
+    Refused(PlacedRefusal),
+}
+
+// Reads the opcode at `at` and its operands. Refuses with 7, 8 or 9.
+pub fn operands_at(bytes: &[u8], at: usize) -> OperandStep
+    ensures { λ r. ⌜ Reading (now (bytes .entry)) at r ⌝ }
+{
+    let n = bytes.len();
+    if n <= at {
+        return OperandStep::End(n);
+    }
+    let width = width_at(bytes, at);
+    if width == 0 {
+        return OperandStep::Refused(why_at(bytes, at));
+    }
+    let opcode = value_at(bytes, at, width);
+    // Opcode 0 ends the program, whatever follows: the Rust drops its buffer here.
+    if opcode == 0 {
+        return OperandStep::End(n);
+    }
+    let place = at + width;
+    if 13 < opcode {
+        return OperandStep::Refused(PlacedRefusal {
+            refusal: Refusal::UnknownBinaryAnnotation(opcode),
+            place,
+        });
+    }
+    operands_of(bytes, opcode, place)
+}
+
+// Reads the operands of an opcode at `at`: 12 has two, the others one.
+fn operands_of(bytes: &[u8], opcode: u32, at: usize) -> OperandStep
+    requires { ⌜ (1 ≤ opcode) × (opcode ≤ 13) ⌝ }
+    ensures { λ r. ⌜ ReadAs (operands (now (bytes .entry)) opcode at) r ⌝ }
+{
+    let width = width_at(bytes, at);
+    if width == 0 {
+        return OperandStep::Refused(why_at(bytes, at));
+    }
+    let first = value_at(bytes, at, width);
+    let next = at + width;
+    if opcode == 12 {
+        let width = width_at(bytes, next);
+        if width == 0 {
+            return OperandStep::Refused(why_at(bytes, next));
+        }
+        let second = value_at(bytes, next, width);
+        let after = next + width;
+        return OperandStep::Annotation(Operands {
+            opcode,
+            first,
+            second,
+            next: after,
+        });
+    }
+    OperandStep::Annotation(Operands {
+        opcode,
+        first,
+        second: 0,
+        next,
+    })
+}

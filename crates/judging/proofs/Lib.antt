@@ -1,0 +1,3 @@
+pub mod SkipLaws
+pub mod JudgedLaws
+pub mod StopLaws

@@ -1,0 +1,37 @@
+// An annotation that was judged is read without a second judgement: its numbers are there.
+use annotations::Operands;
+use numbers::value_at;
+use numbers::width_at;
+ghost use Rattle.annotations.specs.Inner.{Reading};
+ghost use Rattle.annotations.specs.declared.operands.OperandStep.the-variants.{Annotation};
+ghost use Rattle.judging.specs.Inner.{Judged};
+
+// The operands of the annotation at `at`, which was judged.
+pub fn judged_at(bytes: &[u8], at: usize) -> Operands
+    requires { ⌜ Judged (now bytes) at ⌝ }
+    ensures { λ r. ⌜ Reading (now (bytes .entry)) at (Annotation r) ⌝ }
+{
+    let width = width_at(bytes, at);
+    let opcode = value_at(bytes, at, width);
+    let place = at + width;
+    let width = width_at(bytes, place);
+    let first = value_at(bytes, place, width);
+    let next = place + width;
+    if opcode != 12 {
+        return Operands {
+            opcode,
+            first,
+            second: 0,
+            next,
+        };
+    }
+    let width = width_at(bytes, next);
+    let second = value_at(bytes, next, width);
+    let after = next + width;
+    Operands {
+        opcode,
+        first,
+        second,
+        next: after,
+    }
+}

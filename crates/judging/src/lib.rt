@@ -1,0 +1,10 @@
+// Judging annotations, before anything is written. skip.rt: where an annotation ends. judged.rt: what it says, once it
+// is judged. stop.rt: why there is none.
+mod judged;
+mod skip;
+mod stop;
+
+pub use judged::judged_at;
+pub use skip::skip_at;
+pub use stop::Stopped;
+pub use stop::stop_at;

@@ -1,0 +1,43 @@
+// Where an annotation ends. That takes the widths of its numbers, and of their values the opcode alone: nothing is built.
+use numbers::value_at;
+use numbers::width_at;
+ghost use mathlib.Core.Path.{_≡_};
+ghost use Rattle.annotations.specs.Step.{operands};
+ghost use Rattle.judging.specs.Inner.{endOf, Skipping};
+
+// The place after the annotation at `at`. 0 if none stands there.
+pub fn skip_at(bytes: &[u8], at: usize) -> usize
+    ensures { λ r. ⌜ Skipping (now (bytes .entry)) at r ⌝ }
+{
+    let width = width_at(bytes, at);
+    if width == 0 {
+        return 0;
+    }
+    let opcode = value_at(bytes, at, width);
+    if opcode == 0 {
+        return 0;
+    }
+    if 13 < opcode {
+        return 0;
+    }
+    skip_operands(bytes, opcode, at + width)
+}
+
+// The place after the operands of an opcode at `at`: 12 has two, the others one. 0 if they are not there.
+fn skip_operands(bytes: &[u8], opcode: u32, at: usize) -> usize
+    ensures { λ r. ⌜ r ≡ endOf (operands (now (bytes .entry)) opcode at) ⌝ }
+{
+    let width = width_at(bytes, at);
+    if width == 0 {
+        return 0;
+    }
+    let next = at + width;
+    if opcode == 12 {
+        let width = width_at(bytes, next);
+        if width == 0 {
+            return 0;
+        }
+        return next + width;
+    }
+    next
+}
