@@ -1,5 +1,5 @@
-// An opcode and its operands as they stand in the bytes: the one walk over an annotation. `step_at` makes a variant of
-// them, decoding and the boundary the three numbers that a store holds.
+// An opcode and its operands as they stand in the bytes, before they are made into anything: `step_at` makes a variant
+// of them, the boundary three numbers.
 use numbers::PlacedRefusal;
 use numbers::Refusal;
 use numbers::value_at;

@@ -1,4 +1,5 @@
-// An annotation that was judged is read without a second judgement: its numbers are there.
+// Reading an annotation that was judged. Its opcode is known and its numbers are there, so none of it is judged a
+// second time.
 use annotations::Operands;
 use numbers::value_at;
 use numbers::width_at;

@@ -1,4 +1,5 @@
-// Where an annotation ends. That takes the widths of its numbers, and of their values the opcode alone: nothing is built.
+// Where an annotation ends. That takes the widths of its numbers, and of their values the opcode alone. Nothing is
+// built, and no reason is given if there is none.
 use numbers::value_at;
 use numbers::width_at;
 ghost use mathlib.Core.Path.{_≡_};

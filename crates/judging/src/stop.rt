@@ -1,4 +1,6 @@
-// Why no annotation stands at a place. Decoding asks this once, where it stops, so its steps need not carry the reasons.
+// Why no annotation stands at a place. Decoding asks this once, where it stops. `operands_at` would answer the same,
+// but the compiler inlines that where a step crosses to Rust only if it has no second caller, and the step is a quarter
+// faster so.
 use numbers::PlacedRefusal;
 use numbers::Refusal;
 use numbers::value_at;
