@@ -11,7 +11,7 @@ use Rattle.extent.specs.declared.Measured.{Measured}
 use Rattle.slices.specs.Inner.{slicesThrough}
 use Rattle.mapping.specs.Mapping.{mapping}
 
--- what writing the slices of an extent asks for: it is one, its entries lie in the file, and there is room for its slices
+-- what writing the slices of an extent asks for: it is one, its entries lie in the file, and its slices have room
 pub record Writable (f : File) (len room : ℕ) (x : Extent) : Type 0 where
   pub extends : Extends x
   pub lie : EntriesLie f len x

@@ -1,5 +1,5 @@
-// Judging a mapping: the bytes whose slices are to be written, or why there are none. No store is lent here, so both forms
-// of the operation use it (`msf::map`, `slice_store::map_into`).
+// Judging a mapping: the bytes whose slices are to be written, or why there are none. No store is lent here, so both
+// forms of the operation use it (`msf::map`, `slice_store::map_into`).
 use extent::Limit;
 use extent::Measured;
 use extent::measure;
@@ -21,8 +21,8 @@ pub enum Mapping {
     Refused(Refusal),
 }
 
-// Steps 1 to 8, then 10, for a store of so many slices. There are no more slices than pages, so they are counted only if
-// the store is shorter than that.
+// Steps 1 to 8, then 10, for a store of so many slices. There are no more slices than pages, so they are counted only
+// if the store is shorter than that.
 pub fn judge(file: &[u8], stream: StreamNumber, limit: Limit, room: usize) -> Measured
     ensures { λ r. ⌜ Judging (byteAt (now (file .entry))) (length (now (file .entry))) (stream .0) limit room r ⌝ }
 {

@@ -1,4 +1,4 @@
-// Mapping a stream to slices of the file, into two lent stores: `judge` sees that the slices fit, then they are written.
+// Mapping a stream to slices of the file, into two lent stores: `judge` sees that the slices fit, and they are written.
 use extent::Limit;
 use extent::Measured;
 use mapping::Mapped;

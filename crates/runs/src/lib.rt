@@ -1,5 +1,5 @@
-// The page numbers of a paged object, read in place. Entries that stand in one page of their list are a run: the page is
-// looked up once, and its words are read one after the other.
+// The page numbers of a paged object, read in place. Entries that stand in one page of their list are a run: the page
+// is looked up once, and its words are read one after the other.
 //
 // This file: runs, and the two checks that each list meets. stretch.rt: page numbers that go up by one.
 mod stretch;

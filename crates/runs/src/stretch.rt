@@ -1,5 +1,5 @@
-// Page numbers that go up by one: their pages lie next to each other in the file. Whoever reads a list of pages takes it a
-// stretch at a time: `before_first`, then `next_stretch` until all entries are read.
+// Page numbers that go up by one: their pages lie next to each other in the file. Whoever reads a list of pages takes
+// it a stretch at a time: `before_first`, then `next_stretch` until all entries are read.
 use crate::Run;
 use crate::run_of;
 use paged::PageNumber;
@@ -35,7 +35,7 @@ pub fn before_first() -> Stretch
     }
 }
 
-// The stretch after this one, of a list of n entries. It may end before the page numbers stop going up: where a run ends.
+// The stretch after this one, of a list of n entries. It may end before the page numbers stop going up, with its run.
 pub fn next_stretch(file: &[u8], size: usize, pages: Pages, n: usize, s: Stretch) -> Stretch
     requires { ⌜ PageSize size ⌝ }
     requires { ⌜ entryOf pages n ≤ 2 ^ 32 ⌝ }

@@ -24,8 +24,8 @@ pub struct SourceSlice {
     pub size: usize,
 }
 
-// Where a walk stands: how many slices there are so far, the page that would lengthen the last of them, and that slice as
-// far as it reaches.
+// Where a walk stands: how many slices there are so far, the page that would lengthen the last of them, and that slice
+// as far as it reaches.
 pub struct Walk {
     pub count: usize,
     pub after: usize,
