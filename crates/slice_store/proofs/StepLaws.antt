@@ -1,6 +1,6 @@
 -- Stretch after stretch the store holds the pieces of the pages so far (`Walked`, `piecesTo` and their laws in crate slices), and after
 -- the last page they are the slices of what was asked for.
-use mathlib.Core.Path.{_≡_, refl, _∙_}
+use mathlib.Core.Path.{_≡_, refl, sym, _∙_}
 use mathlib.Core.List.{List}
 use Prim.Native.Nat.{ℕ, _-_, _≤_, _<_}
 use native.Mathlib.Omega.{arith}
@@ -56,15 +56,25 @@ module _ {f : File} {len k room : ℕ} {limit : Limit} {j : Measured} (p : Judgi
   unfolding mapped mappedIn extentFor _>>=_
   begins-refused e u z =
       let refusal = judged-refused p e in
-      let is : extentFor (mapping f len k limit room) ≡ x = rw (refusal, z) in
-      record { answer = rw (refusal, u, e); start = rw is starts; writable = rw (is, z) (nothing-writable f len room) }
+      record {
+        answer = rw (refusal, u, e);
+        extent = x;
+        is = rw (refusal, z);
+        start = starts;
+        writable = rw z (nothing-writable f len room);
+      }
 
   pub begins-mapped : {count : ℕ} → j ≡ measured.Extent x → count ≡ length (slicesThrough f x) → Begins f len k limit room (record { answer = variant.Mapped (record { slices = count; length = x .bytes }); start = c })
   unfolding extentFor
   begins-mapped e counted =
       let of = judged-is p e in
-      let is : extentFor (mapping f len k limit room) ≡ x = rw (of .is) (of .extent) in
-      record { answer = judged-mapped p e counted; start = rw is starts; writable = rw is (judged-writable p e) }
+      record {
+        answer = judged-mapped p e counted;
+        extent = x;
+        is = rw (of .is) (sym (of .extent));
+        start = starts;
+        writable = judged-writable p e;
+      }
 
 pub ruleset begin-cases = (begins-refused, begins-mapped)
 
@@ -135,11 +145,7 @@ module _ {f : File} {len room : ℕ} {x : Extent} (w : Writable f len room x) {c
 
 -- ---- the end
 module _ (f : File) (len k : ℕ) (limit : Limit) (ys : List SourceSlice) where
-  -- the bytes whose slices are to be written
-  abbrev pub asked-for : Extent
-  asked-for = extentFor (mapping f len k limit (length ys))
-
-  all-written : sets ys 0 (slicesThrough f asked-for) ≡ written (mapping f len k limit (length ys)) (slicesIn f) ys
+  all-written : sets ys 0 (slicesThrough f (extentFor (mapping f len k limit (length ys)))) ≡ written (mapping f len k limit (length ys)) (slicesIn f) ys
   unfolding extentFor written slicesOf cut
   all-written = go (mapping f len k limit (length ys)) refl
     where
@@ -147,10 +153,10 @@ module _ (f : File) (len k : ℕ) (limit : Limit) (ys : List SourceSlice) where
       go (ok x) g = rw (slices-asked f len k limit (mapping-at f len k limit (length ys) g .asked))
       go (refused why) g = refl
 
-  pub maps-into : {r : Begun} → Begins f len k limit (length ys) r → {c : Cursor} → Reached f asked-for c → c .extent .pages ≤ c .stretch .next → MapsInto f len k limit ys (r .answer) (storeAt f asked-for ys c)
+  pub maps-into : {r : Begun} (b : Begins f len k limit (length ys) r) {c : Cursor} → Reached f (b .extent) c → c .extent .pages ≤ c .stretch .next → MapsInto f len k limit ys (r .answer) (storeAt f (b .extent) ys c)
   maps-into b {c} reached past =
-      let all : c .stretch .next ≡ asked-for .pages = le-antisymm (reached .stands .within) (rw (← reached .extent) past) in
+      let all : c .stretch .next ≡ b .extent .pages = le-antisymm (reached .stands .within) (rw (← reached .extent) past) in
       record {
         answer = b .answer;
-        after = rw (all, ← all-pieces f asked-for (b .writable .extends)) all-written;
+        after = rw (all, ← all-pieces f (b .extent) (b .writable .extends), b .is) all-written;
       }

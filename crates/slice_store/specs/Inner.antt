@@ -34,8 +34,10 @@ pub record Starts (x : Extent) (c : Cursor) : Type 0 where
 
 pub record Begins (f : File) (len k : ℕ) (limit : Limit) (room : ℕ) (r : Begun) : Type 0 where
   pub answer : mappedIn (r .answer) ≡ mapped f (mapping f len k limit room)
-  pub start : Starts (extentFor (mapping f len k limit room)) (r .start)
-  pub writable : Writable f len room (extentFor (mapping f len k limit room))
+  pub extent : Extent
+  pub is : extent ≡ extentFor (mapping f len k limit room)
+  pub start : Starts extent (r .start)
+  pub writable : Writable f len room extent
 
 -- ---- `step`
 pub record Ready (f : File) (len : ℕ) (c : Cursor) : Type 0 where

@@ -70,7 +70,7 @@ use Rattle.slice_store.specs.Promises.{MapsInto}
 use Rattle.slice_store.specs.declared.Begun.{Begun}
 use Rattle.slice_store.specs.declared.Cursor.{Cursor}
 use Rattle.slice_store.specs.declared.Stepped.{Stepped}
-use Rattle.slice_store.proofs.StepLaws.{asked-for, Reached, storeAt, store-length, start-reached, store-start, ready, next-reached, store-next, place-inside, next-nearer, maps-into}
+use Rattle.slice_store.proofs.StepLaws.{Reached, storeAt, store-length, start-reached, store-start, ready, next-reached, store-next, place-inside, next-nearer, maps-into}
 use Rattle.slice_store.proofs.Begun as B
 use Rattle.slice_store.proofs.Begun.Laws as B′
 use Rattle.slice_store.proofs.Cursor as K
@@ -219,7 +219,7 @@ module _ {M : Type 1} (𝓤 : URA M) (H : Heap 𝓤) (A : Atoms 𝓤) (W : Given
     module _ (r : Begun) (begun : Beginning r) (answered : Made (r .answer)) where
       -- the bytes whose slices are written, and the store at a cursor
       abbrev extent : Extent
-      extent = asked-for f (length (x .now)) (stream .0) limit ys
+      extent = begun .extent
 
       abbrev zs : Cursor → List SourceSlice
       zs c = storeAt f extent ys c
