@@ -3,7 +3,7 @@
 use mathlib.Core.Path.{_≡_, sym}
 use mathlib.Core.Logic.{⊎-elim}
 use mathlib.Core.List.{List}
-use Prim.Native.Nat.{ℕ, _+_, _<_, _≤_}
+use Prim.Native.Nat.{ℕ, _+_, _≤_}
 use native.Mathlib.Omega.{arith}
 use Rattle.outcome.proofs.OutcomeLaws.{below-or}
 use Rattle.numbers.specs.Inner.{Width, Value}

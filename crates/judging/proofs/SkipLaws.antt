@@ -12,7 +12,7 @@ use Rattle.numbers.specs.Refusal.{Stop}
 use Rattle.numbers.specs.Number.{numberAt}
 use Rattle.numbers.specs.Inner.{Width, Value}
 use Rattle.numbers.proofs.FormLaws.{number-there, number-missing}
-use Rattle.annotations.specs.Step.{operands, stepAt}
+use Rattle.annotations.specs.Step.{operands}
 use Rattle.annotations.proofs.StepLaws.{first-missing, one-operand, second-missing, two-operands, past-end, code-missing, code-zero, code-unknown, code-known}
 use Rattle.judging.specs.Inner.{endOf, Skipping}
 

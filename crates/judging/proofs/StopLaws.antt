@@ -14,7 +14,7 @@ use Rattle.numbers.specs.Number.{numberAt}
 use Rattle.numbers.specs.Inner.{widthOf, Width, Value, Why}
 use Rattle.numbers.proofs.FormLaws.{number-there}
 use Rattle.numbers.proofs.MoveLaws.{number-in}
-use Rattle.annotations.specs.Step.{operands, stepAt}
+use Rattle.annotations.specs.Step.{operands}
 use Rattle.annotations.proofs.StepLaws.{first-missing, one-operand, second-missing, two-operands, past-end, code-missing, code-zero, code-unknown, code-known}
 use Rattle.judging.specs.Inner.{endOf, Skipping, stoppedIn, Stopping}
 use Rattle.numbers.specs.declared.refusal.Refusal.the-variants.{UnknownBinaryAnnotation}

@@ -1,6 +1,6 @@
 -- The ways out of judging a mapping; what an accepted mapping is known to be.
-use mathlib.Core.Path.{_≡_, refl, sym, _∙_, ap}
-use Prim.Native.Nat.{ℕ, _*_, _≤_, _<_}
+use mathlib.Core.Path.{_≡_, sym, _∙_, ap}
+use Prim.Native.Nat.{ℕ, _≤_, _<_}
 use native.Mathlib.Omega.{arith}
 use borrow.Author.Tests.{le-leb, lt-leb, leb-true}
 use lib.ListN.{length}
@@ -22,7 +22,7 @@ use Rattle.extent.specs.declared.limit.Limit.{Limit}
 use Rattle.extent.specs.declared.Extent.{Extent}
 use Rattle.extent.specs.declared.Measured.{Measured}
 use Rattle.extent.specs.declared.Measured.the-variants as measured
-use Rattle.slices.specs.Slices.{slicesOf, cut}
+use Rattle.slices.specs.Slices.{slicesOf}
 use Rattle.slices.specs.Inner.{slicesThrough}
 use Rattle.slices.proofs.SliceLaws.{cut-past-pages, slices-few, cut-few}
 use Rattle.mapping.specs.Mapping.{slicesIn, mapping, mapped, mappedIn}

@@ -1,6 +1,6 @@
 -- Entries that lie in the file: those of the header block; the words of a location list or of a directory that lies in it.
 use mathlib.Core.Path.{_≡_}
-use Prim.Native.Nat.{ℕ, _+_, _*_, _≤_, _<_}
+use Prim.Native.Nat.{ℕ, _+_, _*_, _≤_}
 use native.Mathlib.Omega.{arith}
 use Rattle.outcome.specs.Outcome.{ok}
 use Rattle.parse_buffer.specs.Bytes.{File}

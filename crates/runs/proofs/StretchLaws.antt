@@ -1,14 +1,14 @@
 -- Stretches: page numbers that go up by one, and the run that is left after them.
-use mathlib.Core.Path.{_≡_, refl, sym, _∙_, ap}
+use mathlib.Core.Path.{_≡_, refl, sym, _∙_}
 use mathlib.Core.Logic.{⊎-elim}
 use Prim.Native.Nat.{ℕ, _+_, _-_, _*_, _^_, _≤_, _<_}
 use native.Mathlib.Omega.{arith}
 use native.Mathlib.Nat.{add-assoc, add-zero, mul-zero}
 use Rattle.outcome.proofs.OutcomeLaws.{below-or}
 use Rattle.parse_buffer.specs.Bytes.{File, word}
-use Rattle.paged.specs.Pages.{pageOf, entryOf}
+use Rattle.paged.specs.Pages.{entryOf}
 use Rattle.paged.specs.declared.pages.Pages.{Pages}
-use Rattle.runs.specs.Inner.{entryPlace, Running, Rising, beforeFirst, Standing, Stretching}
+use Rattle.runs.specs.Inner.{Running, Rising, beforeFirst, Standing, Stretching}
 use Rattle.runs.proofs.RunLaws.{index-most, run-page}
 use Rattle.runs.specs.declared.Run.{Run}
 use Rattle.runs.specs.declared.stretch.Stretch.{Stretch}

@@ -1,6 +1,6 @@
 -- A walk over the pages makes `pieces`: its count is their number, and its slice is the last of them.
 use mathlib.Core.Path.{_≡_, refl, sym, _∙_, ap}
-use mathlib.Core.Bool.{Bool, true, false, cond}
+use mathlib.Core.Bool.{Bool, true, false}
 use mathlib.Core.List.{List, [], _∷_, _++_, map}
 use Prim.Native.Nat.{ℕ, zero, suc, _+_, _-_, _*_, _≤_, _<_}
 use native.Mathlib.Omega.{arith}
@@ -14,7 +14,6 @@ use lib.Seq.{sets, set-set, length-sets}
 use Rattle.outcome.proofs.OutcomeLaws.{by-test}
 use Rattle.store.proofs.SetsLaws.{sets-snoc}
 use Rattle.parse_buffer.specs.Bytes.{File}
-use Rattle.paged.specs.PageSize.{PageSize, need}
 use Rattle.paged.specs.Checks.{wanted}
 use Rattle.paged.specs.Inner.{span}
 use Rattle.paged.proofs.SizeLaws.{need-covers}
@@ -22,7 +21,7 @@ use Rattle.runs.specs.declared.stretch.Stretch.{Stretch}
 use Rattle.extent.specs.Extent.{pageIn}
 use Rattle.extent.specs.Inner.{Extends}
 use Rattle.extent.specs.declared.Extent.{Extent}
-use Rattle.slices.specs.Slices.{lengthen, continues, slicesOf, cut}
+use Rattle.slices.specs.Slices.{lengthen, continues}
 use Rattle.slices.specs.Inner.{slicesThrough, StretchIn, start, joins, extended, onward, Ahead, Near, Writing}
 use Rattle.slices.proofs.SliceLaws.{longer-last, push, pieces, cut-is}
 use Rattle.slices.specs.declared.SourceSlice.{SourceSlice}
