@@ -31,17 +31,17 @@ use Rattle.mapping.specs.declared.Mapping.the-variants as variant
 
 -- ---- the slices of what was asked for are those of its extent: pages past the length change nothing
 module _ (f : File) (len k : ℕ) (limit : Limit) {x : Asked} (e : asked f len k limit ≡ ok x) where
-  pub asked-size : PageSize (x .found .header .pagesize)
+  asked-size : PageSize (x .found .header .pagesize)
   asked-size = reached-at f len (found-at f len k (asked-at f len k limit e .found) .reached) .size
 
   -- the pages of what is asked for are among the stream's own
-  pub asked-few : extentOf x .pages ≤ ownPages (x .found)
+  asked-few : extentOf x .pages ≤ ownPages (x .found)
   asked-few =
       let s = asked-size .least in
       need-rises (x .found .header .pagesize) (omega arith)
       (rw (asked-at f len k limit e .length) (length-most limit (x .found .size)))
 
-  pub slices-asked : slicesIn f x ≡ slicesThrough f (extentOf x)
+  slices-asked : slicesIn f x ≡ slicesThrough f (extentOf x)
   slices-asked =
       let p = x .found .header .pagesize in
       let s = asked-size .least in

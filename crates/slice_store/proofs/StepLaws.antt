@@ -1,42 +1,39 @@
--- Stretch after stretch the store holds the pieces of the pages so far (`Walked`, `piecesTo` and their laws in crate slices), and after
--- the last page they are the slices of what was asked for.
-use mathlib.Core.Path.{_≡_, refl, sym, _∙_}
+-- Stretch after stretch the store holds the pieces of the pages so far (`Walked`, `piecesTo` and their laws in crate slices). After the last page they are
+-- the slices of what was asked for, and the walk has counted them.
+use mathlib.Core.Path.{_≡_, refl, _∙_}
 use mathlib.Core.List.{List}
-use Prim.Native.Nat.{ℕ, _-_, _≤_, _<_}
+use Prim.Native.Nat.{ℕ, _-_, _<_, _≤_}
 use native.Mathlib.Omega.{arith}
 use native.Mathlib.Nat.{le-antisymm}
 use lib.Count
 use lib.ListN.{length, set}
 use lib.Seq.{sets, length-sets}
-use Rattle.outcome.specs.Outcome.{Outcome, ok, refused, _>>=_}
-use Rattle.outcome.specs.Refusal as paper
+use Rattle.outcome.specs.Outcome.{_>>=_}
 use Rattle.outcome.specs.Store.{written}
 use Rattle.parse_buffer.specs.Bytes.{File}
 use Rattle.paged.specs.PageSize.{PageSize, smallest, sizeFits, need}
 use Rattle.paged.specs.declared.refusal.Refusal.{Refusal}
 use Rattle.runs.proofs.StretchLaws.{standing-none, stretch-less}
-use Rattle.extent.specs.Extent.{Asked}
-use Rattle.extent.specs.Inner.{whyMeasured}
 use Rattle.extent.specs.declared.limit.Limit.{Limit}
 use Rattle.extent.specs.declared.Extent.{Extent}
 use Rattle.extent.specs.declared.Measured.{Measured}
 use Rattle.extent.specs.declared.Measured.the-variants as measured
 use Rattle.slices.specs.Slices.{slicesOf, cut}
-use Rattle.slices.specs.Inner.{slicesThrough, StandsIn, StretchIn, onward}
+use Rattle.slices.specs.Inner.{StandsIn, StretchIn, onward}
 use Rattle.slices.proofs.SliceLaws.{pieces}
-use Rattle.slices.proofs.WalkLaws.{piecesTo, Walked, walk-none, walk-near, walk-more, onward-some, walk-few, all-pieces, store-more}
+use Rattle.slices.proofs.WalkLaws.{piecesTo, Walked, walk-none, walk-near, walk-more, onward-some, walk-few, store-more, walk-all, all-pieces}
 use Rattle.slices.specs.declared.SourceSlice.{SourceSlice}
-use Rattle.mapping.specs.Mapping.{slicesIn, mapping, mapped, mappedIn}
+use Rattle.mapping.specs.Mapping.{mapped, mappedIn}
 use Rattle.mapping.specs.Inner.{Writable, Judging}
-use Rattle.mapping.proofs.MappingLaws.{slices-asked, mapping-at, judged-refused, judged-writable, judged-is, judged-mapped}
+use Rattle.mapping.specs.declared.Mapping.{Mapping}
 use Rattle.mapping.specs.declared.Mapping.the-variants as variant
-use Rattle.slice_store.specs.Inner.{noBytes, extentFor, Starts, Begins, Ready, Stepping}
-use Rattle.slice_store.specs.Promises.{MapsInto}
+use Rattle.mapping.proofs.MappingLaws.{judged-writable, judged-refused, judged-is, judged-slices, judged-mapped}
+use Rattle.slice_store.specs.Inner.{noBytes, toWrite, Starts, Ready, Stepping, answerIn}
 use Rattle.slice_store.specs.declared.Cursor.{Cursor}
-use Rattle.slice_store.specs.declared.Begun.{Begun}
 use Rattle.slice_store.specs.declared.Stepped.{Stepped}
+use Rattle.slice_store.specs.Promises.{MapsInto}
 
--- ---- `begin`
+-- ---- what is to be written
 -- writing no bytes asks for nothing
 smallest-passes : PageSize smallest
 unfolding sizeFits Count.ones Count.onesIn
@@ -51,32 +48,9 @@ nothing-writable f len room =
       fit = omega arith;
     }
 
-module _ {f : File} {len k room : ℕ} {limit : Limit} {j : Measured} (p : Judging f len k limit room j) {x : Extent} {c : Cursor} (starts : Starts x c) where
-  pub begins-refused : {why v : Refusal} → j ≡ measured.Refused why → v ≡ whyMeasured j → x ≡ noBytes → Begins f len k limit room (record { answer = variant.Refused v; start = c })
-  unfolding mapped mappedIn extentFor _>>=_
-  begins-refused e u z =
-      let refusal = judged-refused p e in
-      record {
-        answer = rw (refusal, u, e);
-        extent = x;
-        is = rw (refusal, z);
-        start = starts;
-        writable = rw z (nothing-writable f len room);
-      }
-
-  pub begins-mapped : {count : ℕ} → j ≡ measured.Extent x → count ≡ length (slicesThrough f x) → Begins f len k limit room (record { answer = variant.Mapped (record { slices = count; length = x .bytes }); start = c })
-  unfolding extentFor
-  begins-mapped e counted =
-      let of = judged-is p e in
-      record {
-        answer = judged-mapped p e counted;
-        extent = x;
-        is = rw (of .is) (sym (of .extent));
-        start = starts;
-        writable = judged-writable p e;
-      }
-
-pub ruleset begin-cases = (begins-refused, begins-mapped)
+pub writable : {f : File} {len k room : ℕ} {limit : Limit} (j : Measured) → Judging f len k limit room j → Writable f len room (toWrite j)
+writable (measured.Extent x) p = judged-writable p refl
+writable {f} {len} {k} {room} (measured.Refused why) p = nothing-writable f len room
 
 -- ---- the loop: a cursor that it may reach, and the store there
 pub record Reached (f : File) (x : Extent) (c : Cursor) : Type 0 where
@@ -143,20 +117,32 @@ module _ {f : File} {len room : ℕ} {x : Extent} (w : Writable f len room x) {c
     pub next-nearer : x .pages - t .next .stretch .next < x .pages - c .stretch .next
     next-nearer = stretch-less stretch (rw (← reached .extent) less)
 
--- ---- the end
-module _ (f : File) (len k : ℕ) (limit : Limit) (ys : List SourceSlice) where
-  all-written : sets ys 0 (slicesThrough f (extentFor (mapping f len k limit (length ys)))) ≡ written (mapping f len k limit (length ys)) (slicesIn f) ys
-  unfolding extentFor written slicesOf cut
-  all-written = go (mapping f len k limit (length ys)) refl
-    where
-      go : (o : Outcome paper.Refusal Asked) → mapping f len k limit (length ys) ≡ o → sets ys 0 (slicesThrough f (extentFor o)) ≡ written o (slicesIn f) ys
-      go (ok x) g = rw (slices-asked f len k limit (mapping-at f len k limit (length ys) g .asked))
-      go (refused why) g = refl
+-- ---- `answer`, by what was judged
+module _ {j : Measured} (count : ℕ) where
+  pub answer-mapped : {x : Extent} → j ≡ measured.Extent x → variant.Mapped (record { slices = count; length = x .bytes }) ≡ answerIn j count
+  answer-mapped e = rw e
 
-  pub maps-into : {r : Begun} (b : Begins f len k limit (length ys) r) {c : Cursor} → Reached f (b .extent) c → c .extent .pages ≤ c .stretch .next → MapsInto f len k limit ys (r .answer) (storeAt f (b .extent) ys c)
-  maps-into b {c} reached past =
-      let all : c .stretch .next ≡ b .extent .pages = le-antisymm (reached .stands .within) (rw (← reached .extent) past) in
-      record {
-        answer = b .answer;
-        after = rw (all, ← all-pieces f (b .extent) (b .writable .extends), b .is) all-written;
-      }
+  pub answer-refused : {why : Refusal} → j ≡ measured.Refused why → variant.Refused why ≡ answerIn j count
+  answer-refused e = rw e
+
+pub ruleset answer-cases = (answer-mapped, answer-refused)
+
+-- ---- the end: every page was taken
+all-taken : {f : File} {x : Extent} {c : Cursor} → Reached f x c → c .extent .pages ≤ c .stretch .next → c .stretch .next ≡ x .pages
+all-taken reached past = le-antisymm (reached .stands .within) (rw (← reached .extent) past)
+
+pub maps-into : {f : File} {len k : ℕ} {limit : Limit} {ys : List SourceSlice} (j : Measured) → Judging f len k limit (length ys) j → {c : Cursor} → Reached f (toWrite j) c → c .extent .pages ≤ c .stretch .next → {r : Mapping} → r ≡ answerIn j (c .walk .count) → MapsInto f len k limit ys r (storeAt f (toWrite j) ys c)
+unfolding mapped mappedIn written pieces _>>=_
+maps-into {f} (measured.Extent x) p reached past is =
+    let extends = judged-writable p refl .extends in
+    let all = all-taken reached past in
+    let counted = walk-all (reached .walk) extends (reached .stands .within) (rw (← reached .extent) past) in
+    record {
+      answer = rw is (judged-mapped p refl counted);
+      after = rw (all, ← all-pieces f x extends, judged-is p refl .is, judged-slices p refl);
+    }
+maps-into (measured.Refused why) p reached past is =
+    record {
+      answer = rw (is, judged-refused p refl);
+      after = rw (all-taken reached past, judged-refused p refl);
+    }

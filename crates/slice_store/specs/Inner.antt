@@ -1,20 +1,17 @@
 -- What inner functions promise their callers.
 use mathlib.Core.Path.{_≡_}
 use Prim.Native.Nat.{ℕ, _-_, _<_}
-use Rattle.outcome.specs.Outcome.{Outcome, ok, refused}
-use Rattle.outcome.specs.Refusal as paper
 use Rattle.parse_buffer.specs.Bytes.{File}
 use Rattle.paged.specs.PageSize.{smallest}
 use Rattle.runs.specs.Inner.{beforeFirst}
-use Rattle.extent.specs.Extent.{Asked, extentOf}
 use Rattle.extent.specs.Inner.{Extends, EntriesLie}
-use Rattle.extent.specs.declared.limit.Limit.{Limit}
 use Rattle.extent.specs.declared.Extent.{Extent}
+use Rattle.extent.specs.declared.Measured.{Measured}
+use Rattle.extent.specs.declared.Measured.the-variants as measured
 use Rattle.slices.specs.Inner.{StandsIn, StretchIn, start, onward, Near}
-use Rattle.mapping.specs.Mapping.{mapping, mapped, mappedIn}
-use Rattle.mapping.specs.Inner.{Writable}
+use Rattle.mapping.specs.declared.Mapping.{Mapping}
+use Rattle.mapping.specs.declared.Mapping.the-variants as variant
 use Rattle.slice_store.specs.declared.Cursor.{Cursor}
-use Rattle.slice_store.specs.declared.Begun.{Begun}
 use Rattle.slice_store.specs.declared.Stepped.{Stepped}
 
 -- no byte, of pages of the smallest size
@@ -22,22 +19,15 @@ abbrev pub noBytes : Extent
 noBytes = record { pagesize = smallest; first = 0; bytes = 0; pages = 0 }
 
 -- the bytes whose slices are to be written
-unfoldable pub extentFor : Outcome paper.Refusal Asked → Extent
-extentFor (ok x) = extentOf x
-extentFor (refused why) = noBytes
+abbrev pub toWrite : Measured → Extent
+toWrite (measured.Extent x) = x
+toWrite (measured.Refused why) = noBytes
 
--- ---- `begin`: the answer, and the cursor before the first page of what is to be written
+-- ---- `begin`: the cursor before the first page of what is to be written
 pub record Starts (x : Extent) (c : Cursor) : Type 0 where
   pub extent : c .extent ≡ x
   pub stretch : c .stretch ≡ beforeFirst
   pub walk : c .walk ≡ start
-
-pub record Begins (f : File) (len k : ℕ) (limit : Limit) (room : ℕ) (r : Begun) : Type 0 where
-  pub answer : mappedIn (r .answer) ≡ mapped f (mapping f len k limit room)
-  pub extent : Extent
-  pub is : extent ≡ extentFor (mapping f len k limit room)
-  pub start : Starts extent (r .start)
-  pub writable : Writable f len room extent
 
 -- ---- `step`
 pub record Ready (f : File) (len : ℕ) (c : Cursor) : Type 0 where
@@ -54,3 +44,8 @@ pub record Stepping (f : File) (c : Cursor) (r : Stepped) : Type 0 where
   pub walk : r .next .walk ≡ onward (c .extent) (c .stretch .next) (r .next .stretch) (c .walk)
   pub at : r .at ≡ r .next .walk .count - 1
   pub slice : r .slice ≡ r .next .walk .slice
+
+-- ---- `answer`, where so many slices were written
+abbrev pub answerIn : Measured → ℕ → Mapping
+answerIn (measured.Extent x) count = variant.Mapped (record { slices = count; length = x .bytes })
+answerIn (measured.Refused why) count = variant.Refused why

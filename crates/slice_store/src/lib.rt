@@ -1,8 +1,8 @@
 // The slice store: a stream mapped into a lent run of slice records, as the Rust's `PageList` hands out
 // (`src/msf/page_list.rs`, `src/source.rs`), where `msf::map` takes two number stores.
 //
-// Every decision is made by value: `begin` judges and answers, and `step` says which entry the next stretch of pages
-// changes, and to what. Only `map_into` touches the store.
+// Every decision is made by value: `begin` says where the writing starts, `step` which entry the next stretch of pages
+// changes, and to what, and `answer` what to say in the end. Only `map_into` touches the store.
 use extent::Extent;
 use extent::Limit;
 use extent::Measured;
@@ -17,26 +17,19 @@ use runs::before_first;
 use runs::next_stretch;
 pub use slices::SourceSlice;
 use slices::Walk;
-use slices::count_slices;
 use slices::extend;
 ghost use mathlib.Core.Path.{_≡_};
 ghost use lib.ListN.{length};
 ghost use Rattle.parse_buffer.specs.Bytes.{byteAt};
-ghost use Rattle.slice_store.specs.Inner.{noBytes, Starts, Begins, Ready, Stepping};
+ghost use Rattle.slice_store.specs.Inner.{noBytes, toWrite, Starts, Ready, Stepping, answerIn};
 ghost use Rattle.slice_store.specs.Promises.{MapsInto};
 
-// Where the writing stands: what is asked for, the stretch of its pages that was read last, and the walk over the pages
-// up to the end of that stretch.
+// Where the writing stands: what is to be written, the stretch of its pages that was read last, and the walk over the
+// pages up to the end of that stretch.
 struct Cursor {
     extent: Extent,
     stretch: Stretch,
     walk: Walk,
-}
-
-// The answer, and where the writing starts. A refusal has an extent of no bytes, so that nothing is written.
-struct Begun {
-    answer: Mapping,
-    start: Cursor,
 }
 
 // One stretch more: an entry of the store, what it is now, and where the writing stands after it.
@@ -58,46 +51,37 @@ pub fn map_into(
         (now (store .entry)) r (now (store .exit))
         ⌝ }
 {
-    let begun = begin(file, stream, limit, store.len());
-    let mut cursor = begun.start;
+    let judged = judge(file, stream, limit, store.len());
+    let mut cursor = begin(judged);
     while cursor.stretch.next < cursor.extent.pages {
         let stepped = step(file, cursor);
         store[stepped.at] = stepped.slice;
         cursor = stepped.next;
     }
-    begun.answer
+    answer(judged, cursor)
 }
 
-// The answer is made before anything is written, so that the loop of `map_into`, which is proved by hand, has nothing
-// else to do. Its price is that the slices are counted here, even if `judge` has counted them.
-fn begin(file: &[u8], stream: StreamNumber, limit: Limit, room: usize) -> Begun
-    ensures { λ r. ⌜ Begins (byteAt (now (file .entry))) (length (now (file .entry))) (stream .0) limit room r ⌝ }
+// Before the first page of what was judged.
+fn begin(judged: Measured) -> Cursor
+    ensures { λ r. ⌜ Starts (toWrite judged) r ⌝ }
 {
-    let judged = judge(file, stream, limit, room);
-    let Measured::Extent(x) = judged else {
-        let answer = Mapping::Refused(judged.why());
-        let start = start_of(nothing());
-        return Begun { answer, start };
-    };
-    let count = count_slices(file, x);
-    let answer = Mapping::Mapped(Mapped {
-        slices: count,
-        length: x.bytes,
-    });
-    let start = start_of(x);
-    Begun { answer, start }
-}
-
-// Where the writing of an extent's slices starts: before its first page.
-fn start_of(extent: Extent) -> Cursor
-    ensures { λ r. ⌜ Starts extent r ⌝ }
-{
+    let extent = to_write(judged);
     let stretch = before_first();
     let walk = slices::begin();
     Cursor {
         extent,
         stretch,
         walk,
+    }
+}
+
+// The bytes whose slices are to be written: of a refusal none.
+fn to_write(judged: Measured) -> Extent
+    ensures { λ r. ⌜ r ≡ toWrite judged ⌝ }
+{
+    match judged {
+        Measured::Extent(x) => x,
+        Measured::Refused(_) => nothing(),
     }
 }
 
@@ -136,4 +120,17 @@ fn step(file: &[u8], c: Cursor) -> Stepped
         walk,
     };
     Stepped { at, slice, next }
+}
+
+// What to say where the writing ends: by then the walk has counted the slices.
+fn answer(judged: Measured, end: Cursor) -> Mapping
+    ensures { λ r. ⌜ r ≡ answerIn judged (end .walk .count) ⌝ }
+{
+    match judged {
+        Measured::Extent(x) => Mapping::Mapped(Mapped {
+            slices: end.walk.count,
+            length: x.bytes,
+        }),
+        Measured::Refused(why) => Mapping::Refused(why),
+    }
 }

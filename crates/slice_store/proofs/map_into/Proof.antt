@@ -1,5 +1,5 @@
--- `slice_store::map_into` meets its contract: a walk of its MIR, by hand, in the way of our patterns for lent slices of structs (`fill`). `begin` is called once, then the loop calls `step` and stores one entry a turn.
--- Of the two all that is known is that they meet their contracts. The borrow of the store is opened once, before `begin` is called, and closed once, after the loop; in between the row of entries is the walk's own, `zs c` at the cursor c.
+-- `slice_store::map_into` meets its contract: a walk of its MIR, by hand, in the way of our patterns for lent slices of structs (`fill`). `judge` and `begin` are called once each, then the loop calls `step` and stores one entry a turn, and `answer` is called last.
+-- Of the four all that is known is that they meet their contracts. The borrow of the store is opened once, before `judge` is called, and closed once, after `answer`; in between the row of entries is the walk's own, `zs c` at the cursor c.
 -- The loop's variant is the cursor, with what is known of it: that the loop may reach it (`Reached`), and that it is a `Cursor`.
 -- Assumes nothing.
 use mathlib.Core.Path.{_≡_, refl, sym, ap, subst}
@@ -65,14 +65,18 @@ use Rattle.extent.proofs.limit.Limit.Laws as L′
 use Rattle.mapping.specs.declared.Mapping.{Mapping}
 use Rattle.mapping.proofs.Mapping as E
 use Rattle.mapping.proofs.Mapping.Laws as E′
-use Rattle.slice_store.specs.Inner.{Begins, Stepping}
-use Rattle.slice_store.specs.Promises.{MapsInto}
-use Rattle.slice_store.specs.declared.Begun.{Begun}
+use Rattle.extent.specs.declared.Measured.{Measured}
+use Rattle.extent.proofs.Measured as J
+use Rattle.extent.proofs.Measured.Laws as J′
+use Rattle.mapping.specs.Inner.{Judging}
+use Rattle.mapping.proofs.judge as judge
+use Rattle.mapping.proofs.judge.Symbol as judge-def
+use Rattle.mapping.proofs.judge.Symbol.{name as #judge}
+use Rattle.mapping.proofs.judge.Met as judge-thm
+use Rattle.slice_store.specs.Inner.{toWrite, Starts, Stepping, answerIn}
 use Rattle.slice_store.specs.declared.Cursor.{Cursor}
 use Rattle.slice_store.specs.declared.Stepped.{Stepped}
-use Rattle.slice_store.proofs.StepLaws.{Reached, storeAt, store-length, start-reached, store-start, ready, next-reached, store-next, place-inside, next-nearer, maps-into}
-use Rattle.slice_store.proofs.Begun as B
-use Rattle.slice_store.proofs.Begun.Laws as B′
+use Rattle.slice_store.proofs.StepLaws.{writable, Reached, storeAt, store-length, start-reached, store-start, ready, next-reached, store-next, place-inside, next-nearer, maps-into}
 use Rattle.slice_store.proofs.Cursor as K
 use Rattle.slice_store.proofs.Cursor.Laws as K′
 use Rattle.slice_store.proofs.Stepped as S
@@ -85,6 +89,10 @@ use Rattle.slice_store.proofs.step as step
 use Rattle.slice_store.proofs.step.Symbol as step-def
 use Rattle.slice_store.proofs.step.Symbol.{name as #step}
 use Rattle.slice_store.proofs.step.Met as step-thm
+use Rattle.slice_store.proofs.answer as answer
+use Rattle.slice_store.proofs.answer.Symbol as answer-def
+use Rattle.slice_store.proofs.answer.Symbol.{name as #answer}
+use Rattle.slice_store.proofs.answer.Met as answer-thm
 use Rattle.slice_store.proofs.map_into.Key.{name as #map-into}
 use Rattle.slice_store.proofs.map_into as map-into
 use Rattle.slice_store.proofs.map_into.Statement as stated
@@ -102,21 +110,12 @@ stayed = (stay-none-slice (0 ∷ []) tt (plain (λ _. u8)) yes, (stay-none (λ _
 place-fits : (i n : ℕ) → i < n → n * 16 < 2 ^ 63 → i * 16 < 2 ^ 64
 place-fits i n l r = omega arith
 
--- the machine values, and the relation of each type to its own. A `Begun` holds an enum, so its value is not `B′.lowered` by computation
-abbrev bval : Begun → Val
-bval w = only (LL.vals B.the-type B′.the-laws w)
-
-abbrev mval : Mapping → Val
-mval = EL.val E.the-type E′.the-laws
-
+-- the machine values, and the relation of each type to its own
 abbrev lval : Limit → Val
 lval = EL.val L.the-type L′.the-laws
 
 abbrev Good : Cursor → Type 0
 Good c = Is K.the-row c (K′.lowered c ∷ [])
-
-abbrev Made : Mapping → Type 0
-Made m = Is E.the-row m (mval m ∷ [])
 
 abbrev word : Ty
 word = tyInt w64
@@ -132,11 +131,17 @@ blank = record { offset = 0; size = 0 }
 
 module _ {M : Type 1} (𝓤 : URA M) (H : Heap 𝓤) (A : Atoms 𝓤) (mem : Memory → SProp 𝓤) (run : Routine → Fun 𝓤) where
   -- the contracts that the proof cites
+  abbrev Judge : Contract 𝓤
+  Judge = tripleOf 𝓤 H A judge.signature (judge.spec 𝓤 H A mem run)
+
   abbrev Begin : Contract 𝓤
   Begin = tripleOf 𝓤 H A begin.signature (begin.spec 𝓤 H A mem run)
 
   abbrev Step : Contract 𝓤
   Step = tripleOf 𝓤 H A step.signature (step.spec 𝓤 H A mem run)
+
+  abbrev Answer : Contract 𝓤
+  Answer = tripleOf 𝓤 H A answer.signature (answer.spec 𝓤 H A mem run)
 
 module _ {M : Type 1} (𝓤 : URA M) (H : Heap 𝓤) (A : Atoms 𝓤) (W : Given 𝓤 H A) (mem : Memory → SProp 𝓤) (run : Routine → Fun 𝓤)
     (κ κ′ : Lft) (q q′ : Share) (x : RefT (List ℕ)) (stream : StreamNumber) (limit : Limit) (b o : ℕ) (γ : GName) (ys : List SourceSlice)
@@ -168,40 +173,40 @@ module _ {M : Type 1} (𝓤 : URA M) (H : Heap 𝓤) (A : Atoms 𝓤) (W : Given
   abbrev Post : Val → SProp 𝓤
   Post = walkOf 𝓤 H A map-into.ended stayed (map-into.clauses 𝓤 H A mem run) .post (((κ, (κ′, tt)), (q, (q′, tt)), tt, a, vals), tt)
 
-  -- ---- the call of `begin`
+  -- ---- the call of `judge`
   abbrev asks : RefT (List ℕ) × (StreamNumber × (Limit × (ℕ × Unit {0})))
   asks = (x, (stream, (limit, (length ys, tt))))
 
   abbrev ask-vals : List Val × (List Val × (List Val × (List Val × Unit {0})))
   ask-vals = (v ∷ [], (N′.lowered stream ∷ [], (lval limit ∷ [], (vint w64 (length ys) ∷ [], tt))))
 
-  abbrev to-begin : Begin 𝓤 H A mem run .Ghost
-  to-begin = (((κ, tt), (q, tt), tt, asks, ask-vals), tt)
+  abbrev to-judge : Judge 𝓤 H A mem run .Ghost
+  to-judge = (((κ, tt), (q, tt), tt, asks, ask-vals), tt)
 
   -- the file is Copy: what it owns is had twice, and one copy goes to the callee, with the token
-  gives-begin : ent 𝓤 (sep 𝓤 (sem 𝓤 H A Bytes) (A .lft κ q)) (sep 𝓤 (Begin 𝓤 H A mem run .pre to-begin) (sem 𝓤 H A Bytes))
-  gives-begin =
+  gives-judge : ent 𝓤 (sep 𝓤 (sem 𝓤 H A Bytes) (A .lft κ q)) (sep 𝓤 (Judge 𝓤 H A mem run .pre to-judge) (sem 𝓤 H A Bytes))
+  gives-judge =
       qed W (‵ Bytes ∷ ‵ (flft κ q) ∷ []) ∵
       use1 W (‵ Bytes ⊛ ‵ Bytes) (shr-slice-copy 𝓤 H A W (named 0) κ u8 .twice x (v ∷ [])) $ split ! $
       nothing ! $ owned ! usize (Is usize) (uint-makes 𝓤 H A W w64) (length ys) _ (refl, room′ .0) $ fjoin ! $ owned ! L.the-row (Is L.the-row) (EL.makes L.the-type L′.the-plain 𝓤 H A) limit _ limit-is $ fjoin ! $
       owned ! N.the-row (Is N.the-row) (LL.makes N.the-type N′.the-plain 𝓤 H A) stream _ stream-is $ fjoin ! $ move ! (1 ∷ 0 ∷ []) $ fjoin ! $
       nothing ! $ move ! (3 ∷ 0 ∷ []) $ join ! $ move ! (0 ∷ 1 ∷ []) $
-      use2 W (raw (Begin 𝓤 H A mem run .pre to-begin)) asked $ frame ! $ done !
+      use2 W (raw (Judge 𝓤 H A mem run .pre to-judge)) asked $ frame ! $ done !
     where
-      asked : ent 𝓤 (onEntry 𝓤 H A begin.signature (κ, tt) (q, tt) asks ask-vals) (Begin 𝓤 H A mem run .pre to-begin)
+      asked : ent 𝓤 (onEntry 𝓤 H A judge.signature (κ, tt) (q, tt) asks ask-vals) (Judge 𝓤 H A mem run .pre to-judge)
       asked = qed W ((‵ (flft κ q) ⊛ ‵ ftrue) ∷ ‵ (owns (ShrSlice (named 0) κ u8 ∷ N.the-row ∷ L.the-row ∷ usize ∷ []) asks ask-vals) ∷ []) ∵ join ! $ frame ! $ done !
 
   -- of the callee's `ensured`, the clause alone
-  abbrev Beginning : Begun → Type 0
-  Beginning r = Begins f (length (x .now)) (stream .0) limit (length ys) r
+  abbrev Judged : Measured → Type 0
+  Judged r = Judging f (length (x .now)) (stream .0) limit (length ys) r
 
-  said-begin : (r : Begun) → ent 𝓤 (ensured 𝓤 H A begin.ended (begin.clauses 𝓤 H A mem run) (κ, tt) asks tt r) (fact 𝓤 (Beginning r))
-  said-begin r = exE 𝓤 _ (λ ws. snd∗ 𝓤 (sem 𝓤 H A (lasts begin.ended (κ, tt) asks ws)) (fact 𝓤 (Beginning r)))
+  said-judge : (r : Measured) → ent 𝓤 (ensured 𝓤 H A judge.ended (judge.clauses 𝓤 H A mem run) (κ, tt) asks tt r) (fact 𝓤 (Judged r))
+  said-judge r = exE 𝓤 _ (λ ws. snd∗ 𝓤 (sem 𝓤 H A (lasts judge.ended (κ, tt) asks ws)) (fact 𝓤 (Judged r)))
 
   -- ---- the locals
   module _ (l₀ l₁ l₂ l₃ l₄ l₅ l₆ l₇ l₈ l₉ l₁₀ l₁₁ : ℕ) where
     abbrev En : Env 𝓤 H
-    En = (E′.mir, l₀) ∷ (shr-ty, l₁) ∷ (N′.mir, l₂) ∷ (L′.mir, l₃) ∷ (mut-ty, l₄) ∷ (B′.mir, l₅) ∷ (K′.mir, l₆) ∷ (S′.mir, l₇) ∷ (word, l₈) ∷ (tyBool, l₉) ∷ (word, l₁₀) ∷ (tyPtr, l₁₁) ∷ []
+    En = (E′.mir, l₀) ∷ (shr-ty, l₁) ∷ (N′.mir, l₂) ∷ (L′.mir, l₃) ∷ (mut-ty, l₄) ∷ (J′.mir, l₅) ∷ (K′.mir, l₆) ∷ (S′.mir, l₇) ∷ (word, l₈) ∷ (tyBool, l₉) ∷ (word, l₁₀) ∷ (tyPtr, l₁₁) ∷ []
 
     -- the row, the open borrow with its ghost variable, what the file owns, and its token; then the locals, the last first
     abbrev Holding : List SourceSlice → List (Item 𝓤) → List (Item 𝓤)
@@ -215,32 +220,56 @@ module _ {M : Type 1} (𝓤 : URA M) (H : Heap 𝓤) (A : Atoms 𝓤) (W : Given
         ‵ (fat fullShare mut-ty l₄ 0 v′) ∷ ‵ (fdies mut-ty l₄) ∷ ‵ (fat fullShare L′.mir l₃ 0 (lval limit)) ∷ ‵ (fdies L′.mir l₃) ∷ ‵ (fat fullShare N′.mir l₂ 0 (N′.lowered stream)) ∷ ‵ (fdies N′.mir l₂)
         ∷ ‵ (fat fullShare shr-ty l₁ 0 v) ∷ ‵ (fdies shr-ty l₁) ∷ ‵ (froom E′.mir l₀ 0) ∷ ‵ (fdies E′.mir l₀) ∷ []
 
-    -- ---- once it has answered
-    module _ (r : Begun) (begun : Beginning r) (answered : Made (r .answer)) where
+    -- ---- once it has judged
+    module _ (j : Measured) (judged : Judged j) (w : Val) (j-is : Is J.the-row j (w ∷ [])) where
       -- the bytes whose slices are written, and the store at a cursor
       abbrev extent : Extent
-      extent = begun .extent
+      extent = toWrite j
 
       abbrev zs : Cursor → List SourceSlice
       zs c = storeAt f extent ys c
 
-      exits : (c : Cursor) → Reached f extent c → c .extent .pages ≤ c .stretch .next
-          → ent 𝓤 (⋆ 𝓤 H A (‵ (fobs γ (codedHoleys R .code (heres R (zs c)))) ∷ ‵ (fbor κ′ (Held R (length (zs c)) b o γ)) ∷ ‵ (flft κ′ q′) ∷ ‵ Bytes ∷ ‵ (flft κ q) ∷ [])) (Post (mval (r .answer)))
-      exits c reached past =
-          qed W (‵ (fobs γ (codedHoleys R .code (heres R (zs c)))) ∷ ‵ (fbor κ′ (Held R (length (zs c)) b o γ)) ∷ ‵ (flft κ′ q′) ∷ ‵ Bytes ∷ ‵ (flft κ q) ∷ []) ∵
-          suffices ! _ (ends-at 𝓤 H A map-into.ended stayed (map-into.clauses 𝓤 H A mem run) W (((κ, (κ′, tt)), (q, (q′, tt)), tt, a, vals), tt) (mval (r .answer)) (r .answer) (tt, (tt, (tt, (zs c, tt)))) (tt, (tt, (tt, (same, tt))))) $ says ! mapped $
-          nothing ! $ move ! (3 ∷ 0 ∷ []) $ join ! $ move ! (4 ∷ 0 ∷ []) $ join ! $ frame ! $
-          -- [obs; the borrow; what the file owns]: what each parameter owns, from the last to the first
-          fjoin ! $ pureI ! (at-slice R (x′ (zs c)) (v′ ∷ [])) (tt, (tt, tt)) (ap (λ (m : ℕ). sliceVal (b, o) m ∷ []) (sym same), subst (Room R) (sym same) room′) $ fjoin ! $
-          nothing ! $ move ! (1 ∷ 0 ∷ []) $ fjoin ! $ owned ! L.the-row (Is L.the-row) (EL.makes L.the-type L′.the-plain 𝓤 H A) limit _ limit-is $ fjoin ! $
-          owned ! N.the-row (Is N.the-row) (LL.makes N.the-type N′.the-plain 𝓤 H A) stream _ stream-is $ fjoin ! $ move ! (1 ∷ 0 ∷ []) $ fjoin ! $ frame ! $
-          owned ! E.the-row (Is E.the-row) (EL.makes E.the-type E′.the-plain 𝓤 H A) (r .answer) _ answered $ done !
-        where
-          same : length (zs c) ≡ length ys
-          same = store-length f extent ys c
+      -- ---- the call of `begin`
+      abbrev to-begin : Begin 𝓤 H A mem run .Ghost
+      to-begin = ((tt, tt, tt, (j, tt), (w ∷ [], tt)), tt)
 
-          mapped : MapsInto f (length (x .now)) (stream .0) limit ys (r .answer) (zs c)
-          mapped = maps-into f (length (x .now)) (stream .0) limit ys begun reached past
+      gives-begin : ent 𝓤 (onEntry 𝓤 H A begin.signature tt tt (j, tt) (w ∷ [], tt)) (Begin 𝓤 H A mem run .pre to-begin)
+      gives-begin = qed W (‵ ftrue ∷ ‵ (owns (J.the-row ∷ []) (j, tt) (w ∷ [], tt)) ∷ []) ∵ join ! $ frame ! $ done !
+
+      said-begin : (c : Cursor) → ent 𝓤 (ensured 𝓤 H A begin.ended (begin.clauses 𝓤 H A mem run) tt (j, tt) tt c) (fact 𝓤 (Starts extent c))
+      said-begin c = exE 𝓤 _ (λ ws. snd∗ 𝓤 (sem 𝓤 H A (lasts begin.ended tt (j, tt) ws)) (fact 𝓤 (Starts extent c)))
+
+      -- ---- the call of `answer`, at a cursor
+      abbrev ends-with : Cursor → Measured × (Cursor × Unit {0})
+      ends-with c = (j, (c, tt))
+
+      abbrev end-vals : Cursor → List Val × (List Val × Unit {0})
+      end-vals c = (w ∷ [], (K′.lowered c ∷ [], tt))
+
+      abbrev to-answer : Cursor → Answer 𝓤 H A mem run .Ghost
+      to-answer c = ((tt, tt, tt, ends-with c, end-vals c), tt)
+
+      gives-answer : (c : Cursor) → ent 𝓤 (onEntry 𝓤 H A answer.signature tt tt (ends-with c) (end-vals c)) (Answer 𝓤 H A mem run .pre (to-answer c))
+      gives-answer c = qed W (‵ ftrue ∷ ‵ (owns (J.the-row ∷ K.the-row ∷ []) (ends-with c) (end-vals c)) ∷ []) ∵ join ! $ frame ! $ done !
+
+      said-answer : (c : Cursor) (r : Mapping) → ent 𝓤 (ensured 𝓤 H A answer.ended (answer.clauses 𝓤 H A mem run) tt (ends-with c) tt r) (fact 𝓤 (r ≡ answerIn j (c .walk .count)))
+      said-answer c r = exE 𝓤 _ (λ ws. snd∗ 𝓤 (sem 𝓤 H A (lasts answer.ended tt (ends-with c) ws)) (fact 𝓤 (r ≡ answerIn j (c .walk .count))))
+
+      -- ---- the end: the answer, and the store at the last cursor
+      module _ (c : Cursor) (reached : Reached f extent c) (past : c .extent .pages ≤ c .stretch .next) (r : Mapping) (answered : r ≡ answerIn j (c .walk .count)) (u : Val) (r-is : Is E.the-row r (u ∷ [])) where
+        same : length (zs c) ≡ length ys
+        same = store-length f extent ys c
+
+        exits : ent 𝓤 (⋆ 𝓤 H A (‵ (fobs γ (codedHoleys R .code (heres R (zs c)))) ∷ ‵ (fbor κ′ (Held R (length (zs c)) b o γ)) ∷ ‵ (flft κ′ q′) ∷ ‵ Bytes ∷ ‵ (flft κ q) ∷ [])) (Post u)
+        exits =
+            qed W (‵ (fobs γ (codedHoleys R .code (heres R (zs c)))) ∷ ‵ (fbor κ′ (Held R (length (zs c)) b o γ)) ∷ ‵ (flft κ′ q′) ∷ ‵ Bytes ∷ ‵ (flft κ q) ∷ []) ∵
+            suffices ! _ (ends-at 𝓤 H A map-into.ended stayed (map-into.clauses 𝓤 H A mem run) W (((κ, (κ′, tt)), (q, (q′, tt)), tt, a, vals), tt) u r (tt, (tt, (tt, (zs c, tt)))) (tt, (tt, (tt, (same, tt))))) $ says ! (maps-into j judged reached past answered) $
+            nothing ! $ move ! (3 ∷ 0 ∷ []) $ join ! $ move ! (4 ∷ 0 ∷ []) $ join ! $ frame ! $
+            -- [obs; the borrow; what the file owns]: what each parameter owns, from the last to the first
+            fjoin ! $ pureI ! (at-slice R (x′ (zs c)) (v′ ∷ [])) (tt, (tt, tt)) (ap (λ (m : ℕ). sliceVal (b, o) m ∷ []) (sym same), subst (Room R) (sym same) room′) $ fjoin ! $
+            nothing ! $ move ! (1 ∷ 0 ∷ []) $ fjoin ! $ owned ! L.the-row (Is L.the-row) (EL.makes L.the-type L′.the-plain 𝓤 H A) limit _ limit-is $ fjoin ! $
+            owned ! N.the-row (Is N.the-row) (LL.makes N.the-type N′.the-plain 𝓤 H A) stream _ stream-is $ fjoin ! $ move ! (1 ∷ 0 ∷ []) $ fjoin ! $ frame ! $
+            owned ! E.the-row (Is E.the-row) (EL.makes E.the-type E′.the-plain 𝓤 H A) r _ r-is $ done !
 
       -- ---- the call of `step`
       -- what it is passed, at a cursor
@@ -256,7 +285,7 @@ module _ {M : Type 1} (𝓤 : URA M) (H : Heap 𝓤) (A : Atoms 𝓤) (W : Given
           use2 W (raw (Step 𝓤 H A mem run .pre (to-step c))) asked $ frame ! $ done !
         where
           asked : ent 𝓤 (onEntry 𝓤 H A step.signature (κ, tt) (q, tt) (x, (c, tt)) (v ∷ [], (K′.lowered c ∷ [], tt))) (Step 𝓤 H A mem run .pre (to-step c))
-          asked = qed W ((‵ (flft κ q) ⊛ ‵ ftrue) ∷ ‵ (owns (ShrSlice (named 0) κ u8 ∷ K.the-row ∷ []) (x, (c, tt)) (v ∷ [], (K′.lowered c ∷ [], tt))) ∷ []) ∵ says ! (ready (begun .writable) reached less) $ frame ! $ done !
+          asked = qed W ((‵ (flft κ q) ⊛ ‵ ftrue) ∷ ‵ (owns (ShrSlice (named 0) κ u8 ∷ K.the-row ∷ []) (x, (c, tt)) (v ∷ [], (K′.lowered c ∷ [], tt))) ∷ []) ∵ says ! (ready (writable j judged) reached less) $ frame ! $ done !
 
       said-step : (c : Cursor) (t : Stepped) → ent 𝓤 (ensured 𝓤 H A step.ended (step.clauses 𝓤 H A mem run) (κ, tt) (x, (c, tt)) tt t) (fact 𝓤 (Stepping f c t))
       said-step c t = exE 𝓤 _ (λ ws. snd∗ 𝓤 (sem 𝓤 H A (lasts step.ended (κ, tt) (x, (c, tt)) ws)) (fact 𝓤 (Stepping f c t)))
@@ -276,9 +305,9 @@ module _ {M : Type 1} (𝓤 : URA M) (H : Heap 𝓤) (A : Atoms 𝓤) (W : Given
       At i =
           Holding (zs (i .0))
           (‵ (froom tyPtr l₁₁ 0) ∷ ‵ (fdies tyPtr l₁₁) ∷ ‵ (froom word l₁₀ 0) ∷ ‵ (fdies word l₁₀) ∷ ‵ (froom tyBool l₉ 0) ∷ ‵ (fdies tyBool l₉) ∷ ‵ (fat fullShare word l₈ 0 (vint w64 (length ys))) ∷ ‵ (fdies word l₈)
-          ∷ ‵ (froom S′.mir l₇ 0) ∷ ‵ (fdies S′.mir l₇) ∷ ‵ (fat fullShare K′.mir l₆ 0 (K′.lowered (i .0))) ∷ ‵ (fdies K′.mir l₆) ∷ ‵ (fat fullShare B′.mir l₅ 0 (bval r)) ∷ ‵ (fdies B′.mir l₅) ∷ Passed)
+          ∷ ‵ (froom S′.mir l₇ 0) ∷ ‵ (fdies S′.mir l₇) ∷ ‵ (fat fullShare K′.mir l₆ 0 (K′.lowered (i .0))) ∷ ‵ (fdies K′.mir l₆) ∷ ‵ (fat fullShare J′.mir l₅ 0 w) ∷ ‵ (fdies J′.mir l₅) ∷ Passed)
 
-      module _ (𝓣 : Tables 𝓤 H) (known : Triple 𝓤 (𝓣 .C #step) (Step 𝓤 H A mem run)) where
+      module _ (𝓣 : Tables 𝓤 H) (known-step : Triple 𝓤 (𝓣 .C #step) (Step 𝓤 H A mem run)) (known-answer : Triple 𝓤 (𝓣 .C #answer) (Answer 𝓤 H A mem run)) where
         abbrev C : Calls 𝓤 H
         C = 𝓣 .C
 
@@ -296,7 +325,7 @@ module _ {M : Type 1} (𝓤 : URA M) (H : Heap 𝓤) (A : Atoms 𝓤) (W : Given
             rewrite ! 10 (λ (t : Bool). ‵ (fat fullShare tyBool l₉ 0 (vbool t))) (lt-ltb _ _ less) refl $ stays ! (load ! (from ! (stop !)) (look ! 10 refl)) $
             -- the call: what the file owns and its token go, and come back with the result
             move ! (4 ∷ 5 ∷ []) $ use2 W (raw (Step 𝓤 H A mem run .pre (to-step (i .0))) ⊛ ‵ Bytes) (gives-step (i .0) (i .1 .0) less (i .1 .1)) $ split ! $
-            calls-at ! (fmOf 𝓤 H (W .laws) 𝓣) (Step 𝓤 H A mem run) known (to-step (i .0)) (and-then ! (load ! (from ! (stop !)) (look ! 26 refl)) (and-then ! (load ! (from ! (stop !)) (look ! 16 refl)) (no-more !))) (λ u.
+            calls-at ! (fmOf 𝓤 H (W .laws) 𝓣) (Step 𝓤 H A mem run) known-step (to-step (i .0)) (and-then ! (load ! (from ! (stop !)) (look ! 26 refl)) (and-then ! (load ! (from ! (stop !)) (look ! 16 refl)) (no-more !))) (λ u.
             use1 W (later (some (λ (t : Stepped). ((‵ (flft κ q) ⊛ ‵ ftrue) ⊛ ‵ (S.the-row .own t (u ∷ []))) ⊛ raw (ensured 𝓤 H A step.ended (step.clauses 𝓤 H A mem run) (κ, tt) (x, (i .0, tt)) tt t)))) (id⊢ 𝓤 _) $ await ! tt $ pick ! (λ t.
             split ! $ move ! (1 ∷ []) $ use1 W (raw (fact 𝓤 (Stepping f (i .0) t))) (said-step (i .0) t) $ heard ! (Stepping f (i .0) t) (λ stepping. split ! $ move ! (1 ∷ []) $
             peeks ! S.the-row (Is S.the-row) (shows 𝓤 H A S.the-row) t (u ∷ []) (λ is.
@@ -310,14 +339,14 @@ module _ {M : Type 1} (𝓤 : URA M) (H : Heap 𝓤) (A : Atoms 𝓤) (W : Given
             elem-out ! R (Is R) (shows 𝓤 H A R) (LL.vals T.the-type T′.the-laws) (LL.tells T.the-type T′.the-laws) fullShare (zs (i .0)) (t .at) blank b o (within t stepping) (λ _.
             assigns ! (of-opd ! (load ! (from ! (fld ! refl (stop !))) (look-in ! 16 (sub ! 1 refl (whole !))))) (from ! (hop ! (look ! 8 refl) (stop !))) (store-raw ! 0 refl (LL.lawful T.the-type T′.the-laws 𝓤 H A W .typed (t .slice) _ (slice-is t u is) .0)) $
             move ! (1 ∷ []) $ drop ! $ owned ! R (Is R) (LL.makes T.the-type T′.the-plain 𝓤 H A) (t .slice) _ (slice-is t u is) $ move ! (1 ∷ 0 ∷ []) $ elem-put ! R fullShare (zs (i .0)) (t .at) (t .slice) (T′.lowered (t .slice) ∷ []) b o (within t stepping) $
-            rewrite ! 0 (λ (l : List SourceSlice). ‵ (row R fullShare l b o)) (store-next (begun .writable) (i .1 .0) less stepping ys) refl $
+            rewrite ! 0 (λ (l : List SourceSlice). ‵ (row R fullShare l b o)) (store-next (writable j judged) (i .1 .0) less stepping ys) refl $
             -- the cursor moves on
             assigns-last ! (of-opd ! (load ! (from ! (fld ! refl (stop !))) (look-in ! 14 (sub ! 2 refl (whole !))))) (from ! (stop !)) (store ! 16 refl (LL.lawful K.the-type K′.the-laws 𝓤 H A W .typed (t .next) _ (cursor-is t u is) .0)) $
             forget ! 6 refl $ forget ! 8 refl $ forget ! 10 refl $ forget ! 14 refl $
-            again ! Nearer At i (t .next, (next-reached (begun .writable) (i .1 .0) less stepping, cursor-is t u is)) (next-nearer (begun .writable) (i .1 .0) less stepping))))))
+            again ! Nearer At i (t .next, (next-reached (writable j judged) (i .1 .0) less stepping, cursor-is t u is)) (next-nearer (writable j judged) (i .1 .0) less stepping))))))
           where
             inside : (t : Stepped) → Stepping f (i .0) t → t .at < length ys
-            inside t stepping = place-inside (begun .writable) (i .1 .0) less stepping
+            inside t stepping = place-inside (writable j judged) (i .1 .0) less stepping
 
             within : (t : Stepped) → Stepping f (i .0) t → t .at < length (zs (i .0))
             within t stepping = subst (λ (m : ℕ). t .at < m) (sym (store-length f extent ys (i .0))) (inside t stepping)
@@ -334,59 +363,73 @@ module _ {M : Type 1} (𝓤 : URA M) (H : Heap 𝓤) (A : Atoms 𝓤) (W : Given
             cursor-is : (t : Stepped) (u : Val) → Is S.the-row t (u ∷ []) → Good (t .next)
             cursor-is t u is = LL.owed S.the-type S′.the-laws t _ (good t u is) .1 .1 .0
 
-        -- the turn that leaves the loop, and what follows it: the borrow is closed at the list that is filled
+        -- the turn that leaves the loop, and what follows it: `answer` is called, and the borrow is closed at the list that is filled
         ends : (i : Upto) → i .0 .extent .pages ≤ i .0 .stretch .next → Sq W (At i) (runs C Λ En mir.turn-1 (anyQ (Turned i)))
         unfolding afterTurn
         ends i past =
             assigns ! (bin ! (load ! (from ! (fld ! refl (fld ! refl (stop !)))) (look-in ! 16 (sub ! 2 refl (sub ! 1 refl (whole !))))) (load ! (from ! (fld ! refl (fld ! refl (stop !)))) (look-in ! 16 (sub ! 3 refl (sub ! 0 refl (whole !))))) tt) (from ! (stop !)) (init ! 10 refl (tt, tt)) $
             rewrite ! 10 (λ (t : Bool). ‵ (fat fullShare tyBool l₉ 0 (vbool t))) (le-ltb _ _ past) refl $ leaves-loop ! (load ! (from ! (stop !)) (look ! 10 refl)) $ exec ! C Λ En mir.t-5 (atRet En Post) $
-            assigns ! (of-opd ! (load ! (from ! (fld ! refl (stop !))) (look-in ! 18 (sub ! 0 refl (whole !))))) (from ! (stop !)) (init ! 28 refl (EL.lawful E.the-type E′.the-laws 𝓤 H A W tt .typed (r .answer) _ answered .0)) $
+            nothing ! $ owned ! K.the-row (Is K.the-row) (LL.makes K.the-type K′.the-plain 𝓤 H A) (i .0) _ (i .1 .1) $ fjoin ! $ owned ! J.the-row (Is J.the-row) (EL.makes J.the-type J′.the-plain 𝓤 H A) j _ j-is $ fjoin ! $
+            nothing ! $ use2 W (raw (Answer 𝓤 H A mem run .pre (to-answer (i .0)))) (gives-answer (i .0)) $
+            calls-at ! (fmOf 𝓤 H (W .laws) 𝓣) (Answer 𝓤 H A mem run) known-answer (to-answer (i .0)) (and-then ! (load ! (from ! (stop !)) (look ! 19 refl)) (and-then ! (load ! (from ! (stop !)) (look ! 17 refl)) (no-more !))) (λ u.
+            use1 W (later (some (λ (r : Mapping). (‵ ftrue ⊛ ‵ (E.the-row .own r (u ∷ []))) ⊛ raw (ensured 𝓤 H A answer.ended (answer.clauses 𝓤 H A mem run) tt (ends-with (i .0)) tt r)))) (id⊢ 𝓤 _) $ await ! tt $ pick ! (λ r.
+            split ! $ move ! (1 ∷ []) $ use1 W (raw (fact 𝓤 (r ≡ answerIn j (i .0 .walk .count)))) (said-answer (i .0) r) $ heard ! (r ≡ answerIn j (i .0 .walk .count)) (λ answered. split ! $ move ! (1 ∷ []) $
+            peeks ! E.the-row (Is E.the-row) (shows 𝓤 H A E.the-row) r (u ∷ []) (λ is.
+            land ! (from ! (stop !)) (init ! 30 refl (EL.lawful E.the-type E′.the-laws 𝓤 H A W tt .typed r _ is .0)) $ drop ! $ drop ! $
             closes-slice ! tt R ys (zs (i .0)) (store-length f extent ys (i .0)) b o $
             -- [obs; the borrow; its token; what the file owns; its token; _11; …; _0; …]
             returns ! (look ! 27 refl) $ forget ! 9 refl $ forget ! 11 refl $ forget ! 15 refl $ forget ! 17 refl $ forget ! 19 refl $ forget ! 21 refl $ forget ! 23 refl $ forget ! 25 refl $ forget ! 27 refl $
             move ! (27 ∷ 28 ∷ []) $ free1 ! $ move ! (25 ∷ 26 ∷ []) $ free1 ! $ move ! (23 ∷ 24 ∷ []) $ free1 ! $ move ! (21 ∷ 22 ∷ []) $ free1 ! $ move ! (19 ∷ 20 ∷ []) $ free1 ! $ move ! (17 ∷ 18 ∷ []) $ free1 ! $
             move ! (15 ∷ 16 ∷ []) $ free1 ! $ move ! (13 ∷ 14 ∷ []) $ free1 ! $ move ! (11 ∷ 12 ∷ []) $ free1 ! $ move ! (9 ∷ 10 ∷ []) $ free1 ! $ move ! (7 ∷ 8 ∷ []) $ free1 ! $ move ! (5 ∷ 6 ∷ []) $ free1 ! $ free0 ! $
-            by ! (exits (i .0) (i .1 .0) past)
+            by ! (exits (i .0) (i .1 .0) past r answered u is)))))
 
         turns : (i : Upto) → Sq W (At i) (runs C Λ En mir.turn-1 (anyQ (Turned i)))
         turns i = ⊎-elim (more i) (ends i) (below-or (i .0 .stretch .next) (i .0 .extent .pages))
 
         -- the loop, from its start
-        looping : (good : Good (r .start)) → Sq W (At (r .start, (start-reached f (begun .start), good))) (runs C Λ En mir.t-4 (atRet En Post))
-        looping good = first ! $ blocks ! $ loops ! 𝓣 Nearer Nearer-wf At turns (r .start, (start-reached f (begun .start), good))
+        looping : (c : Cursor) (starts : Starts extent c) (good : Good c) → Sq W (At (c, (start-reached f starts, good))) (runs C Λ En mir.t-4 (atRet En Post))
+        looping c starts good = first ! $ blocks ! $ loops ! 𝓣 Nearer Nearer-wf At turns (c, (start-reached f starts, good))
 
     -- ---- up to the loop
-    module _ (𝓣 : Tables 𝓤 H) (known-begin : Triple 𝓤 (𝓣 .C #begin) (Begin 𝓤 H A mem run)) (known-step : Triple 𝓤 (𝓣 .C #step) (Step 𝓤 H A mem run)) where
-      -- the room is read
-      abbrev Asking : List (Item 𝓤)
-      Asking =
-          Holding ys
-          (‵ (froom tyPtr l₁₁ 0) ∷ ‵ (fdies tyPtr l₁₁) ∷ ‵ (froom word l₁₀ 0) ∷ ‵ (fdies word l₁₀) ∷ ‵ (froom tyBool l₉ 0) ∷ ‵ (fdies tyBool l₉) ∷ ‵ (fat fullShare word l₈ 0 (vint w64 (length ys))) ∷ ‵ (fdies word l₈)
-          ∷ ‵ (froom S′.mir l₇ 0) ∷ ‵ (fdies S′.mir l₇) ∷ ‵ (froom K′.mir l₆ 0) ∷ ‵ (fdies K′.mir l₆) ∷ ‵ (froom B′.mir l₅ 0) ∷ ‵ (fdies B′.mir l₅) ∷ Passed)
+    -- the room is read; then the locals from _5 down, of which _5 has room for what is judged, or holds it
+    abbrev Before : List (Item 𝓤) → List (Item 𝓤)
+    Before Γ =
+        Holding ys
+        (‵ (froom tyPtr l₁₁ 0) ∷ ‵ (fdies tyPtr l₁₁) ∷ ‵ (froom word l₁₀ 0) ∷ ‵ (fdies word l₁₀) ∷ ‵ (froom tyBool l₉ 0) ∷ ‵ (fdies tyBool l₉) ∷ ‵ (fat fullShare word l₈ 0 (vint w64 (length ys))) ∷ ‵ (fdies word l₈)
+        ∷ ‵ (froom S′.mir l₇ 0) ∷ ‵ (fdies S′.mir l₇) ∷ ‵ (froom K′.mir l₆ 0) ∷ ‵ (fdies K′.mir l₆) ∷ Γ)
 
-      -- what is known of the result's parts: the answer, and the cursor before the first page
-      parts : (r : Begun) (u : Val) → Is B.the-row r (u ∷ []) → Made (r .answer) × Good (r .start)
-      parts r u is = let p = LL.owed B.the-type B′.the-laws r _ is in (p .0, p .1 .0)
+    module _ (𝓣 : Tables 𝓤 H) (known-judge : Triple 𝓤 (𝓣 .C #judge) (Judge 𝓤 H A mem run)) (known-begin : Triple 𝓤 (𝓣 .C #begin) (Begin 𝓤 H A mem run))
+        (known-step : Triple 𝓤 (𝓣 .C #step) (Step 𝓤 H A mem run)) (known-answer : Triple 𝓤 (𝓣 .C #answer) (Answer 𝓤 H A mem run)) where
+      -- the cursor starts
+      starts : (j : Measured) (judged : Judged j) (w : Val) (j-is : Is J.the-row j (w ∷ [])) → Sq W (Before (‵ (fat fullShare J′.mir l₅ 0 w) ∷ ‵ (fdies J′.mir l₅) ∷ Passed)) (runs (𝓣 .C) (𝓣 .Λ) En mir.t-3 (atRet En Post))
+      starts j judged w j-is =
+          nothing ! $ owned ! J.the-row (Is J.the-row) (EL.makes J.the-type J′.the-plain 𝓤 H A) j _ j-is $ fjoin ! $
+          nothing ! $ use2 W (raw (Begin 𝓤 H A mem run .pre (to-begin j judged w j-is))) (gives-begin j judged w j-is) $
+          calls-at ! (fmOf 𝓤 H (W .laws) 𝓣) (Begin 𝓤 H A mem run) known-begin (to-begin j judged w j-is) (and-then ! (load ! (from ! (stop !)) (look ! 19 refl)) (no-more !)) (λ u.
+          use1 W (later (some (λ (c : Cursor). (‵ ftrue ⊛ ‵ (K.the-row .own c (u ∷ []))) ⊛ raw (ensured 𝓤 H A begin.ended (begin.clauses 𝓤 H A mem run) tt (j, tt) tt c)))) (id⊢ 𝓤 _) $ await ! tt $ pick ! (λ c.
+          split ! $ move ! (1 ∷ []) $ use1 W (raw (fact 𝓤 (Starts (toWrite j) c))) (said-begin j judged w j-is c) $ heard ! (Starts (toWrite j) c) (λ started. split ! $ move ! (1 ∷ []) $
+          peeks ! K.the-row (Is K.the-row) (shows 𝓤 H A K.the-row) c (u ∷ []) (λ is.
+          land ! (from ! (stop !)) (init ! 18 refl (LL.lawful K.the-type K′.the-laws 𝓤 H A W .typed c _ is .0)) $
+          rewrite ! 18 (λ (z : Val). ‵ (fat fullShare K′.mir l₆ 0 z)) (ap only (LL.tells K.the-type K′.the-laws c _ is)) refl $ drop ! $ drop ! $
+          rewrite ! 0 (λ (l : List SourceSlice). ‵ (row R fullShare l b o)) (store-start f started ys) refl $
+          looping j judged w j-is 𝓣 known-step known-answer c started (subst (Is K.the-row c) (LL.tells K.the-type K′.the-laws c _ is) is)))))
 
-      begins : Sq W Asking (runs (𝓣 .C) (𝓣 .Λ) En mir.t-2 (atRet En Post))
+      begins : Sq W (Before (‵ (froom J′.mir l₅ 0) ∷ ‵ (fdies J′.mir l₅) ∷ Passed)) (runs (𝓣 .C) (𝓣 .Λ) En mir.t-2 (atRet En Post))
       begins =
-          move ! (4 ∷ 5 ∷ []) $ use2 W (raw (Begin 𝓤 H A mem run .pre to-begin) ⊛ ‵ Bytes) gives-begin $ split ! $
-          calls-at ! (fmOf 𝓤 H (W .laws) 𝓣) (Begin 𝓤 H A mem run) known-begin to-begin
-          (and-then ! (load ! (from ! (stop !)) (look ! 26 refl)) (and-then ! (load ! (from ! (stop !)) (look ! 24 refl)) (and-then ! (load ! (from ! (stop !)) (look ! 22 refl)) (and-then ! (load ! (from ! (stop !)) (look ! 12 refl)) (no-more !))))) (λ u.
-          use1 W (later (some (λ (r : Begun). ((‵ (flft κ q) ⊛ ‵ ftrue) ⊛ ‵ (B.the-row .own r (u ∷ []))) ⊛ raw (ensured 𝓤 H A begin.ended (begin.clauses 𝓤 H A mem run) (κ, tt) asks tt r)))) (id⊢ 𝓤 _) $ await ! tt $ pick ! (λ r.
-          split ! $ move ! (1 ∷ []) $ use1 W (raw (fact 𝓤 (Beginning r))) (said-begin r) $ heard ! (Beginning r) (λ begun. split ! $ move ! (1 ∷ []) $
-          peeks ! B.the-row (Is B.the-row) (shows 𝓤 H A B.the-row) r (u ∷ []) (λ is.
-          land ! (from ! (stop !)) (init ! 19 refl (LL.lawful B.the-type B′.the-laws 𝓤 H A W .typed r _ is .0)) $
-          rewrite ! 19 (λ (w : Val). ‵ (fat fullShare B′.mir l₅ 0 w)) (ap only (LL.tells B.the-type B′.the-laws r _ is)) refl $
+          move ! (4 ∷ 5 ∷ []) $ use2 W (raw (Judge 𝓤 H A mem run .pre to-judge) ⊛ ‵ Bytes) gives-judge $ split ! $
+          calls-at ! (fmOf 𝓤 H (W .laws) 𝓣) (Judge 𝓤 H A mem run) known-judge to-judge
+          (and-then ! (load ! (from ! (stop !)) (look ! 26 refl)) (and-then ! (load ! (from ! (stop !)) (look ! 24 refl)) (and-then ! (load ! (from ! (stop !)) (look ! 22 refl)) (and-then ! (load ! (from ! (stop !)) (look ! 12 refl)) (no-more !))))) (λ w.
+          use1 W (later (some (λ (j : Measured). ((‵ (flft κ q) ⊛ ‵ ftrue) ⊛ ‵ (J.the-row .own j (w ∷ []))) ⊛ raw (ensured 𝓤 H A judge.ended (judge.clauses 𝓤 H A mem run) (κ, tt) asks tt j)))) (id⊢ 𝓤 _) $ await ! tt $ pick ! (λ j.
+          split ! $ move ! (1 ∷ []) $ use1 W (raw (fact 𝓤 (Judged j))) (said-judge j) $ heard ! (Judged j) (λ judged. split ! $ move ! (1 ∷ []) $
+          peeks ! J.the-row (Is J.the-row) (shows 𝓤 H A J.the-row) j (w ∷ []) (λ is.
+          land ! (from ! (stop !)) (init ! 19 refl (EL.lawful J.the-type J′.the-laws 𝓤 H A W tt .typed j _ is .0)) $
           drop ! $ split ! $ move ! (1 ∷ []) $ drop ! $ move ! (2 ∷ 3 ∷ 4 ∷ 5 ∷ 1 ∷ 0 ∷ []) $
-          -- [the row; the open borrow; obs; auth; what the file owns; its token; _11; …; _0; …]: the cursor starts
-          assigns ! (of-opd ! (load ! (from ! (fld ! refl (stop !))) (look-in ! 18 (sub ! 1 refl (whole !))))) (from ! (stop !)) (init ! 16 refl (LL.lawful K.the-type K′.the-laws 𝓤 H A W .typed (r .start) _ (parts r u is .1) .0)) $
-          rewrite ! 0 (λ (l : List SourceSlice). ‵ (row R fullShare l b o)) (store-start f (begun .start) ys) refl $
-          looping r begun (parts r u is .0) 𝓣 known-step (parts r u is .1)))))
+          -- [the row; the open borrow; obs; auth; what the file owns; its token; _11; …; _0; …]
+          starts j judged w is))))
 
-  walk : (𝓣 : Tables 𝓤 H) → Triple 𝓤 (𝓣 .C #begin) (Begin 𝓤 H A mem run) → Triple 𝓤 (𝓣 .C #step) (Step 𝓤 H A mem run)
+  walk : (𝓣 : Tables 𝓤 H) → Triple 𝓤 (𝓣 .C #judge) (Judge 𝓤 H A mem run) → Triple 𝓤 (𝓣 .C #begin) (Begin 𝓤 H A mem run) → Triple 𝓤 (𝓣 .C #step) (Step 𝓤 H A mem run) → Triple 𝓤 (𝓣 .C #answer) (Answer 𝓤 H A mem run)
       → ent 𝓤 (onEntry 𝓤 H A map-into.signature (κ, (κ′, tt)) (q, (q′, tt)) a vals) (WpFn 𝓤 H (𝓣 .C) (𝓣 .Λ) code.function (v ∷ N′.lowered stream ∷ lval limit ∷ v′ ∷ []) Post)
-  walk 𝓣 known-begin known-step =
+  walk 𝓣 known-judge known-begin known-step known-answer =
       qed W ((‵ (flft κ q) ⊛ ‵ (flft κ′ q′) ⊛ ‵ ftrue) ∷ ‵ (owns (ShrSlice (named 0) κ u8 ∷ N.the-row ∷ L.the-row ∷ MutSlice (named 1) κ′ R ∷ []) a vals) ∷ []) ∵ enter ! (𝓣 .C) (𝓣 .Λ) code.function (v ∷ N′.lowered stream ∷ lval limit ∷ v′ ∷ []) _ $
       alloc1 ! (λ l₀. alloc1 ! (λ l₁. alloc1 ! (λ l₂. alloc1 ! (λ l₃. alloc1 ! (λ l₄. alloc1 ! (λ l₅. alloc1 ! (λ l₆. alloc1 ! (λ l₇. alloc1 ! (λ l₈. alloc1 ! (λ l₉. alloc1 ! (λ l₁₀. alloc1 ! (λ l₁₁. alloc0 ! $ params1 ! $
       pass1 ! (init ! 20 refl (tt, (tt, (record { fits = room .0 }, tt)))) $ pass1 ! (init ! 18 refl (LL.lawful N.the-type N′.the-laws 𝓤 H A W .typed stream _ stream-is .0)) $
@@ -398,15 +441,16 @@ module _ {M : Type 1} (𝓤 : URA M) (H : Heap 𝓤) (A : Atoms 𝓤) (W : Given
       move ! (31 ∷ []) $ split ! $ move ! (1 ∷ []) $ split ! $
       -- [the store's token; true; the file's token; obs; the borrow; the store's fact; true; what limit, stream and the file own; _11; …; _0; …]
       move ! (3 ∷ 4 ∷ 0 ∷ []) $ opens-slice ! tt R ys b o $ keep ! (0 ∷ 1 ∷ 2 ∷ 3 ∷ 10 ∷ 5 ∷ 11 ∷ 12 ∷ 13 ∷ 14 ∷ 15 ∷ 16 ∷ 17 ∷ 18 ∷ 19 ∷ 20 ∷ 21 ∷ 22 ∷ 23 ∷ 24 ∷ 25 ∷ 26 ∷ 27 ∷ 28 ∷ 29 ∷ 30 ∷ 31 ∷ 32 ∷ 33 ∷ 34 ∷ []) $
-      begins l₀ l₁ l₂ l₃ l₄ l₅ l₆ l₇ l₈ l₉ l₁₀ l₁₁ 𝓣 known-begin known-step))))))))))))
+      begins l₀ l₁ l₂ l₃ l₄ l₅ l₆ l₇ l₈ l₉ l₁₀ l₁₁ 𝓣 known-judge known-begin known-step known-answer))))))))))))
 
 module _ {M : Type 1} (𝓤 : URA M) (H : Heap 𝓤) (A : Atoms 𝓤) (W : Given 𝓤 H A) (mem : Memory → SProp 𝓤) (run : Routine → Fun 𝓤) (𝓣 : Tables 𝓤 H)
-    (known-begin : Triple 𝓤 (𝓣 .C #begin) (Begin 𝓤 H A mem run)) (known-step : Triple 𝓤 (𝓣 .C #step) (Step 𝓤 H A mem run)) where
+    (known-judge : Triple 𝓤 (𝓣 .C #judge) (Judge 𝓤 H A mem run)) (known-begin : Triple 𝓤 (𝓣 .C #begin) (Begin 𝓤 H A mem run))
+    (known-step : Triple 𝓤 (𝓣 .C #step) (Step 𝓤 H A mem run)) (known-answer : Triple 𝓤 (𝓣 .C #answer) (Answer 𝓤 H A mem run)) where
   map-into-walks : Walks 𝓤 H A map-into.ended stayed (WpFn 𝓤 H (𝓣 .C) (𝓣 .Λ) code.function) (map-into.clauses 𝓤 H A mem run)
   map-into-walks = walked 𝓤 H A map-into.ended stayed (map-into.clauses 𝓤 H A mem run) (WpFn 𝓤 H (𝓣 .C) (𝓣 .Λ) code.function)
       (λ κs. (slice-vals, (LL.vals N.the-type N′.the-laws, (EL.vals L.the-type L′.the-laws, (slice-vals, tt))))) (λ κs. (shr-slice-tells (named 0) (κs .0) u8, (LL.tells N.the-type N′.the-laws, (EL.tells L.the-type L′.the-laws, (mut-slice-tells (named 1) (κs .1 .0) R, tt)))))
       (λ κs qs bounds a g are. via 𝓤 _ (fst∗ 𝓤 _ (emp 𝓤))
-      (walk 𝓤 H A W mem run (κs .0) (κs .1 .0) (qs .0) (qs .1 .0) (a .0) (a .1 .0) (a .1 .1 .0) (a .1 .1 .1 .0 .ptr .0) (a .1 .1 .1 .0 .ptr .1) (a .1 .1 .1 .0 .name) (a .1 .1 .1 .0 .now) (are .0 .0 .1) (are .1 .0) (are .1 .1 .0) (are .1 .1 .1 .0 .0 .1) 𝓣 known-begin known-step))
+      (walk 𝓤 H A W mem run (κs .0) (κs .1 .0) (qs .0) (qs .1 .0) (a .0) (a .1 .0) (a .1 .1 .0) (a .1 .1 .1 .0 .ptr .0) (a .1 .1 .1 .0 .ptr .1) (a .1 .1 .1 .0 .name) (a .1 .1 .1 .0 .now) (are .0 .0 .1) (are .1 .0) (are .1 .1 .0) (are .1 .1 .1 .0 .0 .1) 𝓣 known-judge known-begin known-step known-answer))
 
   map-into-meets : Meets 𝓤 H A map-into.signature (WpFn 𝓤 H (𝓣 .C) (𝓣 .Λ) code.function) (map-into.spec 𝓤 H A mem run)
   map-into-meets =
@@ -420,5 +464,7 @@ map-into-spec 𝓤 H 𝓜 𝓖 𝓡 =
     entered 𝓤 H (tripleOf 𝓤 H (𝓖 .A) map-into.signature (map-into.spec 𝓤 H (𝓖 .A) (𝓜 .mem) (𝓡 .run)))
     (tables 𝓤 H 𝓜 𝓡 code.env .C) (tables 𝓤 H 𝓜 𝓡 code.env .Λ) #map-into code.function (code.unfolded 𝓤 H 𝓜 𝓡)
     (map-into-meets 𝓤 H (𝓖 .A) (givenOf 𝓤 H 𝓜 𝓖) (𝓜 .mem) (𝓡 .run) (tablesOf 𝓤 H 𝓜 (tables 𝓤 H 𝓜 𝓡 code.env))
+    (cited 𝓤 H (Judge 𝓤 H (𝓖 .A) (𝓜 .mem) (𝓡 .run)) 𝓜 𝓡 code.env #judge judge-def.routine code.calls-mapping·judge (judge-thm.met 𝓤 H 𝓜 𝓖 𝓡))
     (cited 𝓤 H (Begin 𝓤 H (𝓖 .A) (𝓜 .mem) (𝓡 .run)) 𝓜 𝓡 code.env #begin begin-def.routine code.calls-slice-store·begin (begin-thm.met 𝓤 H 𝓜 𝓖 𝓡))
-    (cited 𝓤 H (Step 𝓤 H (𝓖 .A) (𝓜 .mem) (𝓡 .run)) 𝓜 𝓡 code.env #step step-def.routine code.calls-slice-store·step (step-thm.met 𝓤 H 𝓜 𝓖 𝓡)))
+    (cited 𝓤 H (Step 𝓤 H (𝓖 .A) (𝓜 .mem) (𝓡 .run)) 𝓜 𝓡 code.env #step step-def.routine code.calls-slice-store·step (step-thm.met 𝓤 H 𝓜 𝓖 𝓡))
+    (cited 𝓤 H (Answer 𝓤 H (𝓖 .A) (𝓜 .mem) (𝓡 .run)) 𝓜 𝓡 code.env #answer answer-def.routine code.calls-slice-store·answer (answer-thm.met 𝓤 H 𝓜 𝓖 𝓡)))
