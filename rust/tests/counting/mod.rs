@@ -5,6 +5,8 @@ use std::cell::Cell;
 
 thread_local! {
     /// How many bytes this thread has asked for.
+    // Clippy 0.1.63 takes the macro's own constant for one of ours.
+    #[allow(clippy::declare_interior_mutable_const)]
     static ASKED: Cell<usize> = const { Cell::new(0) };
 }
 
