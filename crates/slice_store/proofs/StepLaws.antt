@@ -1,5 +1,5 @@
--- Stretch after stretch the store holds the pieces of the pages so far (`Walked`, `piecesTo` and their laws in crate slices). After the last page they are
--- the slices of what was asked for, and the walk has counted them.
+-- Stretch after stretch the store holds the pieces of the pages so far (`Walked`, `piecesTo` and their laws in crate
+-- slices). After the last page they are the slices of what was asked for, and the walk has counted them.
 use mathlib.Core.Path.{_≡_, refl, _∙_}
 use mathlib.Core.List.{List}
 use Prim.Native.Nat.{ℕ, _-_, _<_, _≤_}
