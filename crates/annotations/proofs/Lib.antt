@@ -2,3 +2,5 @@ pub mod SignedLaws
 pub mod AnnotationLaws
 pub mod StepLaws
 pub mod MoveLaws
+pub mod PrefixLaws
+pub mod ShiftLaws
