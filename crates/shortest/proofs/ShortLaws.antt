@@ -1,12 +1,14 @@
 -- The shortest form by its three sizes, and the ways out of the functions that measure it and put it.
-use mathlib.Core.Path.{_≡_, refl, sym, ap}
+use mathlib.Core.Path.{_≡_}
 use mathlib.Core.List.{List, [], _∷_}
 use Prim.Native.Nat.{ℕ, suc, _+_, _/_, _%_, _^_, _≤_, _<_}
 use native.Mathlib.Omega.{arith}
 use native.Mathlib.Numerals.{add-one, add-two}
 use borrow.Author.Tests.{lt-ltb, le-ltb}
-use lib.ListN.{length, set, length-set}
+use lib.Dec.{ltb}
+use lib.ListN.{length, set}
 use lib.Seq.{sets, length-sets}
+use Rattle.outcome.proofs.OutcomeLaws.{by-test}
 use Rattle.store.specs.Putting.{Putting}
 use Rattle.shortest.specs.Short.{short}
 
@@ -32,6 +34,19 @@ module _ (n : ℕ) where
 
   pub width-four : 0x4000 ≤ n → 4 ≡ length (short n)
   width-four h = rw (short-four h)
+
+-- a form has one to four bytes
+pub short-some : (n : ℕ) → 1 ≤ length (short n)
+unfolding short
+short-some n =
+    let P : List ℕ → Type 0 = λ l. 1 ≤ length l in
+    by-test P (ltb n 0x80) (λ _. omega arith) (λ _. by-test P (ltb n 0x4000) (λ _. omega arith) (λ _. omega arith))
+
+pub short-most : (n : ℕ) → length (short n) ≤ 4
+unfolding short
+short-most n =
+    let P : List ℕ → Type 0 = λ l. length l ≤ 4 in
+    by-test P (ltb n 0x80) (λ _. omega arith) (λ _. by-test P (ltb n 0x4000) (λ _. omega arith) (λ _. omega arith))
 
 pub ruleset width-cases = (width-one, width-two, width-four)
 

@@ -1,0 +1,61 @@
+-- Request 2026-01: a list of records, in document 01's store layout, as bytes.
+use Prim.Native.Nat.{ℕ, zero, suc, _+_, _*_, _/_, _%_}
+use mathlib.Core.List.{List, [], _∷_, _++_}
+use lib.Dec.{leb, eqb}
+use lib.ListN.{length, getD}
+use lib.IntN.{ℤ, pos, natAbs}
+use Rattle.outcome.specs.Outcome.{Outcome, ok, _>>=_, _>>_, require}
+use Rattle.outcome.specs.Each.{each}
+use Rattle.outcome.specs.Refusal as paper
+use Rattle.annotations.specs.Annotation.{triple}
+use Rattle.annotations.specs.declared.annotation.Triple.{Triple}
+use Rattle.annotation_writer.specs.Refusal.{refusalIn}
+use Rattle.annotation_writer.specs.Ranges.{writable}
+use Rattle.annotation_writer.specs.Operands.{annotationBytes}
+use Rattle.annotation_writer.specs.declared.record.Record.{Record}
+use Rattle.annotation_writer.specs.declared.refusal.Refusal.the-variants.{BadRecord, RaggedList, NoRoom}
+
+-- a record is three entries: opcode, first, second or 0
+abbrev pub entriesEach : ℕ
+entriesEach = 3
+
+abbrev pub count : List ℤ → ℕ
+count list = length list / entriesEach
+
+abbrev pub recordAt : List ℤ → ℕ → Record
+recordAt list k =
+    record {
+      opcode = getD list (entriesEach * k) (pos 0);
+      first = getD list (entriesEach * k + 1) (pos 0);
+      second = getD list (entriesEach * k + 2) (pos 0);
+    }
+
+-- the annotations of the first n records
+abbrev pub annotationIn : Record → Triple
+annotationIn r = triple (natAbs (r .opcode)) (r .first) (r .second)
+
+unfoldable pub annotationsIn : List ℤ → ℕ → List Triple
+annotationsIn list zero = []
+annotationsIn list (suc n) = annotationsIn list n ++ annotationIn (recordAt list n) ∷ []
+
+-- "bytes with every number in its shortest form and no closing opcode"
+unfoldable pub bytesOf : List Triple → List ℕ
+bytesOf [] = []
+bytesOf (t ∷ later) = annotationBytes t ++ bytesOf later
+
+abbrev pub listBytes : List ℤ → List ℕ
+listBytes list = bytesOf (annotationsIn list (count list))
+
+-- how many bytes a list takes: "21 first, then the first bad record"
+unfoldable pub measuring : List ℤ → Outcome paper.Refusal ℕ
+measuring list = do
+  require (eqb (length list % entriesEach) 0) (refusalIn RaggedList)
+  each (λ k. writable (recordAt list k)) (λ k. refusalIn (BadRecord k)) (count list)
+  ok (length (listBytes list))
+
+-- how many bytes are written to a store of `room` bytes: "then 10"
+unfoldable pub writing : List ℤ → ℕ → Outcome paper.Refusal ℕ
+writing list room = do
+  needed ← measuring list
+  require (leb needed room) (refusalIn (NoRoom needed))
+  ok needed
