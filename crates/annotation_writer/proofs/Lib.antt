@@ -1,3 +1,1 @@
-pub mod RangeLaws
-pub mod OperandLaws
 pub mod WriteLaws

@@ -22,18 +22,19 @@ use Rattle.outcome.proofs.EachLaws.{each-none, each-more, each-stops, each-pass
 use Rattle.store.specs.Putting.{Putting}
 use Rattle.store.proofs.PutLaws.{put-length, puts-more}
 use Rattle.annotations.specs.declared.annotation.Triple.{Triple}
-use Rattle.shortest.specs.Short.{short}
-use Rattle.shortest.proofs.ShortLaws.{short-some, short-most}
+use Rattle.annotation_records.specs.Records.{entriesEach, count, recordAt, annotationIn}
+use Rattle.annotation_records.specs.Ranges.{writable}
+use Rattle.annotation_records.specs.Operands.{shorts, annotationBytes}
+use Rattle.annotation_records.specs.Inner.{numbersIn, NumbersOf}
+use Rattle.annotation_records.proofs.OperandLaws.{numbers-few, annotation-some}
+use Rattle.annotation_records.specs.declared.record.Record.{Record}
+use Rattle.annotation_records.specs.declared.operands.Numbers.{Numbers}
 use Rattle.annotation_writer.specs.Refusal.{refusalIn}
-use Rattle.annotation_writer.specs.Ranges.{writable}
-use Rattle.annotation_writer.specs.Operands.{operandsOf, shorts, annotationBytes}
-use Rattle.annotation_writer.specs.Writing.{entriesEach, count, recordAt, annotationIn, annotationsIn, bytesOf, listBytes, measuring, writing}
+use Rattle.annotation_writer.specs.Writing.{annotationsIn, bytesOf, listBytes, measuring, writing}
 use Rattle.annotation_writer.specs.Promises.{writtenIn, Writing}
-use Rattle.annotation_writer.specs.Inner.{numbersIn, NumbersOf, Width, Measuring, AllWritable}
-use Rattle.annotation_writer.specs.declared.record.Record.{Record}
+use Rattle.annotation_writer.specs.Inner.{Width, Measuring, AllWritable}
 use Rattle.annotation_writer.specs.declared.refusal.Refusal.{Refusal}
 use Rattle.annotation_writer.specs.declared.refusal.Refusal.the-variants.{BadRecord, RaggedList, NoRoom}
-use Rattle.annotation_writer.specs.declared.operands.Numbers.{Numbers}
 use Rattle.annotation_writer.specs.declared.write.Written.{Written}
 use Rattle.annotation_writer.specs.declared.write.Written.the-variants.{Length, Refused}
 
@@ -47,20 +48,7 @@ pub bytes-more : (list : List ℤ) (k : ℕ) → bytesOf (annotationsIn list (k 
 unfolding annotationsIn bytesOf
 bytes-more list k = rw (add-one k, bytes-append, append-nil)
 
--- an annotation has an opcode, so it takes bytes
-pub annotation-some : (t : Triple) → 1 ≤ length (annotationBytes t)
-unfolding shorts
-annotation-some t = rw length-append (omega (arith, short-some (t .opcode)))
-
 -- ---- `width_at`
-numbers-few : (n : Numbers) → length (shorts (numbersIn n)) ≤ 12
-unfolding shorts
-numbers-few n = go (eqb (n .opcode) 12)
-  where
-    go : (b : Bool) → length (shorts (cond b (n .opcode ∷ n .first ∷ n .second ∷ []) (n .opcode ∷ n .first ∷ []))) ≤ 12
-    go true = rw (length-append, length-append, length-append) (omega (arith, short-most (n .opcode), short-most (n .first), short-most (n .second)))
-    go false = rw (length-append, length-append) (omega (arith, short-most (n .opcode), short-most (n .first)))
-
 module _ {q r : Record} (e : r ≡ q) {t : Bool} (i : t ≡ writable r) where
   pub width-good : t ≡ true → {n : Numbers} → NumbersOf r n → {x : ℕ} → x ≡ length (shorts (numbersIn n)) → Width q x
   width-good y {n} o j =

@@ -1,39 +1,20 @@
 -- Request 2026-01: a list of records, in document 01's store layout, as bytes.
-use Prim.Native.Nat.{ℕ, zero, suc, _+_, _*_, _/_, _%_}
+use Prim.Native.Nat.{ℕ, zero, suc, _%_}
 use mathlib.Core.List.{List, [], _∷_, _++_}
 use lib.Dec.{leb, eqb}
-use lib.ListN.{length, getD}
-use lib.IntN.{ℤ, pos, natAbs}
+use lib.ListN.{length}
+use lib.IntN.{ℤ}
 use Rattle.outcome.specs.Outcome.{Outcome, ok, _>>=_, _>>_, require}
 use Rattle.outcome.specs.Each.{each}
 use Rattle.outcome.specs.Refusal as paper
-use Rattle.annotations.specs.Annotation.{triple}
 use Rattle.annotations.specs.declared.annotation.Triple.{Triple}
+use Rattle.annotation_records.specs.Records.{entriesEach, count, recordAt, annotationIn}
+use Rattle.annotation_records.specs.Ranges.{writable}
+use Rattle.annotation_records.specs.Operands.{annotationBytes}
 use Rattle.annotation_writer.specs.Refusal.{refusalIn}
-use Rattle.annotation_writer.specs.Ranges.{writable}
-use Rattle.annotation_writer.specs.Operands.{annotationBytes}
-use Rattle.annotation_writer.specs.declared.record.Record.{Record}
 use Rattle.annotation_writer.specs.declared.refusal.Refusal.the-variants.{BadRecord, RaggedList, NoRoom}
 
--- a record is three entries: opcode, first, second or 0
-abbrev pub entriesEach : ℕ
-entriesEach = 3
-
-abbrev pub count : List ℤ → ℕ
-count list = length list / entriesEach
-
-abbrev pub recordAt : List ℤ → ℕ → Record
-recordAt list k =
-    record {
-      opcode = getD list (entriesEach * k) (pos 0);
-      first = getD list (entriesEach * k + 1) (pos 0);
-      second = getD list (entriesEach * k + 2) (pos 0);
-    }
-
 -- the annotations of the first n records
-abbrev pub annotationIn : Record → Triple
-annotationIn r = triple (natAbs (r .opcode)) (r .first) (r .second)
-
 unfoldable pub annotationsIn : List ℤ → ℕ → List Triple
 annotationsIn list zero = []
 annotationsIn list (suc n) = annotationsIn list n ++ annotationIn (recordAt list n) ∷ []

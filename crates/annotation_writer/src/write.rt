@@ -1,15 +1,16 @@
 // Writing a list of records. The first pass judges and measures it and the second writes it, so a refusal has written
 // nothing.
-use crate::operands::numbers_of;
-use crate::range::is_writable;
-use crate::record::ENTRIES_EACH;
-use crate::record::record_at;
 use crate::refusal::Refusal;
+use annotation_records::ENTRIES_EACH;
+use annotation_records::is_writable;
+use annotation_records::numbers_of;
+use annotation_records::record_at;
 ghost use mathlib.Core.Path.{_≡_};
 ghost use Prim.Native.Nat.{_≤_, _<_};
 ghost use lib.ListN.{length};
 ghost use lib.Seq.{sets};
-ghost use Rattle.annotation_writer.specs.Writing.{count, recordAt, listBytes};
+ghost use Rattle.annotation_records.specs.Records.{count, recordAt};
+ghost use Rattle.annotation_writer.specs.Writing.{listBytes};
 ghost use Rattle.annotation_writer.specs.Inner.{Width, Measuring, AllWritable};
 ghost use Rattle.annotation_writer.specs.Promises.{Writing};
 

@@ -31,6 +31,7 @@ module _ (s t : List ℕ) where
       both : (r : Outcome Stop Number) → StepKeeps (r >>= k′) (r >>= k)
       both (ok n) = h n
       both (refused why) = same refl
+
       go : (r : Outcome Stop Number) → NumberKeeps s t at r → StepKeeps (numberAt (s ++ t) at >>= k′) (r >>= k)
       go r (NumberKeeps.same e) = rw e (both r)
       go _ NumberKeeps.short = short

@@ -1,0 +1,2 @@
+pub mod RangeLaws
+pub mod OperandLaws

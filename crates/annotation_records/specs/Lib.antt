@@ -1,0 +1,4 @@
+pub mod Records
+pub mod Ranges
+pub mod Operands
+pub mod Inner
