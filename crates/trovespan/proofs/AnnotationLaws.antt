@@ -22,8 +22,13 @@ use Rattle.annotations.specs.declared.operands.OperandStep.{OperandStep}
 use Rattle.annotations.specs.declared.operands.OperandStep.the-variants as read
 use Rattle.decode.specs.declared.Decoded.{Decoded}
 use Rattle.decode.specs.declared.Decoded.the-variants as decoded
+use Rattle.annotation_writer.specs.Refusal as writer
+use Rattle.annotation_writer.specs.Promises.{writtenIn, Writing}
+use Rattle.annotation_writer.specs.declared.refusal.Refusal as why-writer
+use Rattle.annotation_writer.specs.declared.write.Written.{Written}
+use Rattle.annotation_writer.specs.declared.write.Written.the-variants as written-variants
 use Rattle.trovespan.specs.Crossing.{told, opcodeOf, firstOf, secondOf, nextOf, placeOr0}
-use Rattle.trovespan.specs.Promises.{Numbers, Steps, Decodes}
+use Rattle.trovespan.specs.Promises.{Numbers, Steps, Decodes, Writes}
 
 -- ---- `trovespan_number`
 module _ {s : List ℕ} {at : ℕ} {r : Uncompressed} (p : Uncompressing s at r) where
@@ -84,3 +89,19 @@ module _ {s : List ℕ} {store store′ : List ℤ} {r : Decoded} (p : Decoding 
       record { answer = record { number = rw k; value = rw k }; place-told = rw k; after = p .after }
 
 pub ruleset decode-cases = (decodes-count, decodes-refused, decodes-no-room)
+
+-- ---- `trovespan_write_annotations`
+module _ {list : List ℤ} {out out′ : List ℕ} {r : Written} (p : Writing list out r out′) where
+  pub writes-length : {n : ℕ} → r ≡ written-variants.Length n → Writes list out 0 n out′
+  unfolding told writtenIn
+  writes-length {n} e =
+      let k : _ ≡ ok n = sym (p .answer) ∙ ap writtenIn e in
+      record { answer = record { number = rw k; value = rw k }; after = p .after }
+
+  pub writes-refused : {why : why-writer.Refusal} {n v : ℕ} → r ≡ written-variants.Refused why → n ≡ writer.refusalIn why .number → v ≡ writer.refusalIn why .value → Writes list out n v out′
+  unfolding told writtenIn
+  writes-refused {why} e n v =
+      let k : _ ≡ refused (writer.refusalIn why) = sym (p .answer) ∙ ap writtenIn e in
+      record { answer = record { number = rw k n; value = rw k v }; after = p .after }
+
+pub ruleset write-cases = (writes-length, writes-refused)

@@ -7,6 +7,9 @@ use Rattle.paged.specs.declared.refusal.Refusal.the-variants as container-varia
 use Rattle.numbers.specs.Refusal as annotations
 use Rattle.numbers.specs.declared.refusal.Refusal as why-annotations
 use Rattle.numbers.specs.declared.refusal.Refusal.the-variants as annotations-variants
+use Rattle.annotation_writer.specs.Refusal as writer
+use Rattle.annotation_writer.specs.declared.refusal.Refusal as why-writer
+use Rattle.annotation_writer.specs.declared.refusal.Refusal.the-variants as writer-variants
 use Rattle.annotations.specs.Annotation.{tripleIn}
 use Rattle.annotations.specs.declared.annotation.BinaryAnnotation.{BinaryAnnotation}
 use Rattle.annotations.specs.declared.annotation.BinaryAnnotation.the-variants as annotation
@@ -33,6 +36,8 @@ single-valued =
           (same (p .answer .number) (q .answer .number) i, same (p .answer .value) (q .answer .value) i, same (p .first-told) (q .first-told) i, same (p .second-told) (q .second-told) i, same (p .next-told) (q .next-told) i);
       decode = λ s store a b p q i.
           (same (p .answer .number) (q .answer .number) i, same (p .answer .value) (q .answer .value) i, same (p .place-told) (q .place-told) i, same (p .after) (q .after) i);
+      write-annotations = λ list out a b p q i.
+          (same (p .answer .number) (q .answer .number) i, same (p .answer .value) (q .answer .value) i, same (p .after) (q .after) i);
     }
 
 -- ---- by each case
@@ -50,6 +55,11 @@ annotations-apart : (why : why-annotations.Refusal) → NotZero (annotations.ref
 annotations-apart annotations-variants.ShortData = (omega arith, omega arith)
 annotations-apart annotations-variants.InvalidCompressedAnnotation = (omega arith, omega arith)
 annotations-apart (annotations-variants.UnknownBinaryAnnotation opcode) = (omega arith, omega arith)
+
+writer-apart : (why : why-writer.Refusal) → NotZero (writer.refusalIn why .number)
+writer-apart (writer-variants.BadRecord index) = omega arith
+writer-apart writer-variants.RaggedList = omega arith
+writer-apart (writer-variants.NoRoom needed) = omega arith
 
 opcode-apart : (a : BinaryAnnotation) → NotZero (tripleIn a .opcode)
 opcode-apart (annotation.CodeOffset v) = omega arith
@@ -71,6 +81,7 @@ apart =
     record {
       container-refusal = container-apart;
       annotations-refusal = λ why. annotations-apart why .0;
+      writer-refusal = writer-apart;
       opcode = opcode-apart;
       placed = λ why. annotations-apart why .1;
     }

@@ -22,6 +22,7 @@ use Rattle.numbers.specs.Number.{numberAt}
 use Rattle.annotations.specs.Step.{Stepped, stepAt}
 use Rattle.decode.specs.Decode.{DecodeStop, decodedEntries, decoding}
 use Rattle.numbers.specs.declared.number.Number.{Number}
+use Rattle.annotation_writer.specs.Writing.{listBytes, writing}
 use Rattle.trovespan.specs.Crossing.{told, Tells, opcodeOf, firstOf, secondOf, nextOf, placeOr0}
 
 -- ---- the container. Where a refusal has nothing to say, the number is 0
@@ -72,3 +73,12 @@ pub record DecodesOf (s : List ℕ) (o : Outcome DecodeStop ℕ) (store : List �
 
 abbrev pub Decodes : List ℕ → List ℤ → ℕ → ℕ → ℕ → List ℤ → Type 0
 Decodes s store = DecodesOf s (decoding s (length store)) store
+
+-- (o is what writing answers)
+pub record WritesOf (list : List ℤ) (o : Outcome paper.Refusal ℕ) (out : List ℕ) (r value : ℕ) (out′ : List ℕ)
+    : Type 0 where
+  pub answer : Tells o (λ n. n) r value
+  pub after : out′ ≡ written o (λ _. listBytes list) out
+
+abbrev pub Writes : List ℤ → List ℕ → ℕ → ℕ → List ℕ → Type 0
+Writes list out = WritesOf list (writing list (length out)) out

@@ -8,10 +8,12 @@ use Rattle.paged.specs.Refusal as container
 use Rattle.paged.specs.declared.refusal.Refusal as why-container
 use Rattle.numbers.specs.Refusal as annotations
 use Rattle.numbers.specs.declared.refusal.Refusal as why-annotations
+use Rattle.annotation_writer.specs.Refusal as writer
+use Rattle.annotation_writer.specs.declared.refusal.Refusal as why-writer
 use Rattle.annotations.specs.Annotation.{tripleIn}
 use Rattle.annotations.specs.declared.annotation.BinaryAnnotation.{BinaryAnnotation}
 use Rattle.extent.specs.declared.limit.Limit.{Limit}
-use Rattle.trovespan.specs.Promises.{Opens, Counts, Maps, Extracts, Numbers, Steps, Decodes}
+use Rattle.trovespan.specs.Promises.{Opens, Counts, Maps, Extracts, Numbers, Steps, Decodes, Writes}
 
 -- no other numbers, and no other stores, satisfy a promise. (All that a function gives is one tuple.)
 pub record SingleValued : Type 0 where
@@ -25,6 +27,8 @@ pub record SingleValued : Type 0 where
   pub step : (s : List ℕ) (at : ℕ) → Only (λ (o : ℕ × ℕ × ℤ × ℤ × ℕ). Steps s at (o .0) (o .1) (o .2) (o .3) (o .4))
   pub decode : (s : List ℕ) (store : List ℤ)
       → Only (λ (o : ℕ × ℕ × ℕ × List ℤ). Decodes s store (o .0) (o .1) (o .2) (o .3))
+  pub write-annotations : (list : List ℤ) (out : List ℕ)
+      → Only (λ (o : ℕ × ℕ × List ℕ). Writes list out (o .0) (o .1) (o .2))
 
 -- not 0, which stands for success or, as an opcode, for the end
 abbrev pub NotZero : ℕ → Type 0
@@ -38,5 +42,6 @@ BelowNoRoom n = n < 10
 pub record Apart : Type 0 where
   pub container-refusal : (why : why-container.Refusal) → NotZero (container.refusalIn why .number)
   pub annotations-refusal : (why : why-annotations.Refusal) → NotZero (annotations.refusalIn why .number)
+  pub writer-refusal : (why : why-writer.Refusal) → NotZero (writer.refusalIn why .number)
   pub opcode : (a : BinaryAnnotation) → NotZero (tripleIn a .opcode)
   pub placed : (why : why-annotations.Refusal) → BelowNoRoom (annotations.refusalIn why .number)

@@ -1,9 +1,11 @@
 // The static library that Rust and C link: each operation as a C function over numbers and slices. A slice crosses as a
 // pointer and a length.
 //
-// Each function returns 0 on success, else the refusal's number in document 01's table. It writes its other results to
+// Each function returns 0 on success, else the refusal's number in document 01's table, or 20 or 21 of request 2026-01. It writes its other results to
 // the numbers that it is lent: on a refusal `value` is the refusal's value, and a number that has nothing to say is 0.
 // The caller guarantees that what it lends is there and does not overlap, and nothing else.
+use annotation_writer::Written;
+use annotation_writer::write_annotations;
 use annotations::OperandStep;
 use annotations::operands_at;
 use decode::Decoded;
@@ -21,7 +23,7 @@ ghost use mathlib.Core.Path.{_≡_};
 ghost use lib.ListN.{length};
 ghost use Rattle.parse_buffer.specs.Bytes.{byteAt};
 ghost use Rattle.trovespan.specs.Crossing.{limitOf};
-ghost use Rattle.trovespan.specs.Promises.{Opens, Counts, Maps, Extracts, Numbers, Steps, Decodes};
+ghost use Rattle.trovespan.specs.Promises.{Opens, Counts, Maps, Extracts, Numbers, Steps, Decodes, Writes};
 ghost use Rattle.trovespan.specs.Statements.{SingleValued, Apart};
 
 // Returned on success. No refusal has this number.
@@ -225,6 +227,29 @@ pub extern "C" fn trovespan_decode(
             *value = needed as u64;
             *place = 0;
             NO_ROOM
+        }
+    }
+}
+
+// `value` is the number of bytes written.
+#[no_mangle]
+pub extern "C" fn trovespan_write_annotations(
+    records: &[i64],
+    out: &mut [u8],
+    value: &mut u64,
+) -> u32
+    ensures { λ r. ⌜
+        Writes (now (records .entry)) (now (out .entry)) r (now (value .exit)) (now (out .exit))
+        ⌝ }
+{
+    match write_annotations(records, out) {
+        Written::Length(n) => {
+            *value = n as u64;
+            ACCEPTED
+        }
+        Written::Refused(why) => {
+            *value = why.value();
+            why.number()
         }
     }
 }
