@@ -88,3 +88,51 @@ pub fn decode(bytes: &[u8], store: &mut [i64]) -> Result<usize, DecodeRefusal> {
     })?;
     Ok(value as usize)
 }
+
+/// Writes annotations as bytes to the front of `out`, and returns the number of bytes written. `records` has three
+/// numbers for each annotation, as [`decode`] and [`BinaryAnnotation::triple`] give them: opcode, first operand, second
+/// operand or 0. The empty list is accepted, and writes nothing.
+///
+/// Every number is written in its shortest form, and no opcode 0 closes the bytes. A record takes 2 to 9 bytes.
+///
+/// Decoding the bytes gives the same records. Writing what was decoded may give other bytes: a number also has longer
+/// forms, and a signed operand of 1 reads as 0 too.
+///
+/// What a record may hold:
+///
+/// | Opcode | First operand | Second operand |
+/// |---|---|---|
+/// | 1 to 5, 7 to 9, 13 | 0 to 536870911 | 0 |
+/// | 6, 10 | -268435455 to 268435455 | 0 |
+/// | 11 | 0 to 15 | -16777215 to 16777215 |
+/// | 12 | 0 to 536870911 | 0 to 536870911 |
+///
+/// # Errors
+///
+/// Refuses with 21 if the length of `records` is no multiple of 3; else with 20 and the index of the first record, from
+/// 0, that holds anything else; else with 10 and the number of bytes needed if `out` is too short. A refusal leaves
+/// `out` unchanged.
+///
+/// ```
+/// use trovespan::{decode, write_annotations, Refusal};
+///
+/// let records = [3, 200, 0, 11, 2, -3];
+/// let mut out = [0; 18];
+/// let length = write_annotations(&records, &mut out)?;
+/// assert_eq!(out[..length], [3, 0x80, 200, 11, 0x72]);
+///
+/// let mut store = [0; 6];
+/// assert_eq!(decode(&out[..length], &mut store), Ok(2));
+/// assert_eq!(store, records);
+///
+/// // An empty `out` asks for the length.
+/// assert_eq!(write_annotations(&records, &mut []), Err(Refusal { number: 10, value: 5 }));
+/// # Ok::<(), Refusal>(())
+/// ```
+///
+/// [`BinaryAnnotation::triple`]: crate::BinaryAnnotation::triple
+pub fn write_annotations(records: &[i64], out: &mut [u8]) -> Result<usize, Refusal> {
+    let (number, value) = ffi::write_annotations(records, out);
+    Refusal::judge(number, value)?;
+    Ok(value as usize)
+}

@@ -70,6 +70,33 @@ impl BinaryAnnotation {
         })
     }
 
+    /// Returns the annotation as [`write_annotations`](crate::write_annotations) takes it: opcode, first operand,
+    /// second operand or 0.
+    ///
+    /// ```
+    /// use trovespan::BinaryAnnotation;
+    ///
+    /// assert_eq!(BinaryAnnotation::ChangeLineOffset(-7).triple(), [6, -7, 0]);
+    /// ```
+    #[must_use]
+    pub fn triple(self) -> [i64; 3] {
+        match self {
+            Self::CodeOffset(offset) => [1, offset.into(), 0],
+            Self::ChangeCodeOffsetBase(base) => [2, base.into(), 0],
+            Self::ChangeCodeOffset(offset) => [3, offset.into(), 0],
+            Self::ChangeCodeLength(length) => [4, length.into(), 0],
+            Self::ChangeFile(FileIndex(file)) => [5, file.into(), 0],
+            Self::ChangeLineOffset(lines) => [6, lines.into(), 0],
+            Self::ChangeLineEndDelta(lines) => [7, lines.into(), 0],
+            Self::ChangeRangeKind(kind) => [8, kind.into(), 0],
+            Self::ChangeColumnStart(column) => [9, column.into(), 0],
+            Self::ChangeColumnEndDelta(columns) => [10, columns.into(), 0],
+            Self::ChangeCodeOffsetAndLineOffset(offset, lines) => [11, offset.into(), lines.into()],
+            Self::ChangeCodeLengthAndCodeOffset(length, offset) => [12, length.into(), offset.into()],
+            Self::ChangeColumnEnd(column) => [13, column.into(), 0],
+        }
+    }
+
     /// Returns whether the annotation emits a line record.
     #[must_use]
     pub const fn emits_line_info(self) -> bool {

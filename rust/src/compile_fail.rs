@@ -32,7 +32,7 @@
 //!     match kind {
 //!         UnrecognizedFileFormat | UnimplementedFeature | InvalidPageSize | PageReferenceOutOfRange => true,
 //!         StreamNotFound | FileEnds | ShortData | InvalidCompressedAnnotation | UnknownBinaryAnnotation => true,
-//!         NoRoom | OverLimit => true,
+//!         NoRoom | OverLimit | BadRecord | RaggedList => true,
 //!         Other(_) => false,
 //!     }
 //! }

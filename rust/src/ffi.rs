@@ -1,7 +1,7 @@
 //! The proved library's functions, and all unsafe code. A slice crosses as a pointer and a length.
 //!
 //! No compiler checks these declarations against `crates/trovespan/src/lib.rt`. `tests/crate/run` does, word by word,
-//! and the comparison with pdb calls each function.
+//! and the crate's tests call each function.
 //!
 //! What each function asks of its caller:
 //!
@@ -61,6 +61,13 @@ mod c {
             store_len: usize,
             value: *mut u64,
             place: *mut u64,
+        ) -> u32;
+        pub fn trovespan_write_annotations(
+            records: *const i64,
+            records_len: usize,
+            out: *mut u8,
+            out_len: usize,
+            value: *mut u64,
         ) -> u32;
     }
 }
@@ -147,4 +154,14 @@ pub fn decode(bytes: &[u8], store: &mut [i64]) -> (u32, u64, u64) {
         c::trovespan_decode(bytes.as_ptr(), bytes.len(), store.as_mut_ptr(), store.len(), &mut value, &mut place)
     };
     (number, value, place)
+}
+
+pub fn write_annotations(records: &[i64], out: &mut [u8]) -> (u32, u64) {
+    let mut value = 0;
+    // SAFETY: `records` and `out` are borrowed for the call, each with its own length, and `out` mutably, so they do not
+    // overlap; `value` is a local number.
+    let number = unsafe {
+        c::trovespan_write_annotations(records.as_ptr(), records.len(), out.as_mut_ptr(), out.len(), &mut value)
+    };
+    (number, value)
 }

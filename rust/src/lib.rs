@@ -1,9 +1,9 @@
-//! Reads the container of PDB files (MSF) and decodes binary annotations, with a proved library.
+//! Reads the container of PDB files (MSF), and decodes and writes binary annotations, with a proved library.
 //!
 //! - [`Container`] and [`Stream`] read a container, and allocate no more than the caller allows.
 //! - [`annotations`](annotations()) iterates over annotations.
 //! - Below these, [`open`], [`stream_count`], [`map`] and [`extract`] read a container into stores that the caller
-//!   lends, and [`number`], [`step`] and [`decode`] read annotations as numbers.
+//!   lends, [`number`], [`step`] and [`decode`] read annotations as numbers, and [`write_annotations`] writes them.
 //!
 //! Every function returns for any input.
 //!
@@ -66,8 +66,11 @@
 //! | 9 | `UnknownBinaryAnnotation` | the opcode | an annotation's opcode is above 13 |
 //! | 10 | `NoRoom` | the entries needed | the answer is complete, but the store is too small for it |
 //! | 11 | `OverLimit` | the limit | over a limit of the program `list`; no function here has one |
+//! | 20 | `BadRecord` | the record's index, from 0 | a record has an opcode or operand that cannot be written |
+//! | 21 | `RaggedList` | 0 | the length of a list of records is no multiple of 3 |
 //!
-//! If several conditions hold, the first one met in reading decides.
+//! If several conditions hold, the first one met in reading decides. [`write_annotations`] judges in the order 21, 20,
+//! 10.
 //!
 //! # Features
 //!
@@ -104,7 +107,7 @@ mod mapping;
 mod msf;
 mod refusal;
 
-pub use annotations::{decode, number, step, DecodeRefusal, Step, ENTRIES_EACH};
+pub use annotations::{decode, number, step, write_annotations, DecodeRefusal, Step, ENTRIES_EACH};
 pub use binary_annotation::{BinaryAnnotation, FileIndex};
 pub use container::{Container, Stream};
 #[cfg(feature = "alloc")]

@@ -38,6 +38,10 @@ pub enum Kind {
     NoRoom,
     /// 11: a listing has a limit, and this is over it.
     OverLimit,
+    /// 20: a record cannot be written as an annotation.
+    BadRecord,
+    /// 21: a list of records ends within a record.
+    RaggedList,
     /// A number that has no name here.
     Other(u32),
 }
@@ -66,6 +70,8 @@ impl Refusal {
             9 => Kind::UnknownBinaryAnnotation,
             10 => Kind::NoRoom,
             11 => Kind::OverLimit,
+            20 => Kind::BadRecord,
+            21 => Kind::RaggedList,
             other => Kind::Other(other),
         }
     }
@@ -109,6 +115,8 @@ impl Display for Refusal {
             Kind::UnknownBinaryAnnotation => write!(f, "there is no annotation of opcode {value}"),
             Kind::NoRoom => write!(f, "the store is too small, {value} entries are needed"),
             Kind::OverLimit => write!(f, "over the limit of a listing, {value}"),
+            Kind::BadRecord => write!(f, "record {value}, counted from 0, cannot be written as an annotation"),
+            Kind::RaggedList => write!(f, "the list ends within a record"),
             Kind::Other(_) => write!(f, "a reason that has no name here, with value {value}"),
         }
     }

@@ -2,14 +2,15 @@
 //!
 //! Some of the library's numbers are large only for inputs that no test can lend, such as 2^32 annotations. So
 //! functions of the same names stand in for the library here: the linker prefers a program's own functions. Each
-//! returns the first byte that it is lent, and writes numbers of 64 bits: those that it is given, or `VALUE` and
-//! `OTHER`.
+//! returns the first byte or number that it is lent, and writes numbers of 64 bits: those that it is given, or `VALUE`
+//! and `OTHER`.
 
 mod fields;
 
 use fields::{map_counts, opened, stepped, Found};
 use trovespan::{
-    annotations, decode, extract, number, slice_count, stream_count, stream_length, DecodeRefusal, Refusal,
+    annotations, decode, extract, number, slice_count, stream_count, stream_length, write_annotations, DecodeRefusal,
+    Refusal,
 };
 
 const VALUE: u64 = 0xfedc_ba98_7654_3210;
@@ -95,6 +96,18 @@ unsafe extern "C" fn trovespan_decode(
     u32::from(*bytes)
 }
 
+#[no_mangle]
+unsafe extern "C" fn trovespan_write_annotations(
+    records: *const i64,
+    _: usize,
+    _: *mut u8,
+    _: usize,
+    value: *mut u64,
+) -> u32 {
+    *value = VALUE;
+    *records as u32
+}
+
 fn refusal(number: u32) -> Refusal {
     Refusal { number, value: VALUE }
 }
@@ -173,4 +186,12 @@ fn decoding() {
     assert_eq!(decode(&[0], &mut []), Ok(VALUE as usize));
     assert_eq!(decode(&[9], &mut []), Err(DecodeRefusal { refusal: refusal(9), place: Some(OTHER as usize) }));
     assert_eq!(decode(&[10], &mut []), Err(DecodeRefusal { refusal: refusal(10), place: None }));
+}
+
+#[test]
+fn writing() {
+    assert_eq!(write_annotations(&[0], &mut []), Ok(VALUE as usize));
+    for number in [10, 20, 21] {
+        assert_eq!(write_annotations(&[number], &mut []), Err(refusal(number as u32)));
+    }
 }

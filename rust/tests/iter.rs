@@ -118,6 +118,23 @@ fn largest_operands() {
 }
 
 #[test]
+fn a_triple_is_what_a_step_gives() {
+    for opcode in 1..=13 {
+        for operands in [&[2, 17][..], &[0xdf, 0xff, 0xff, 0xff, 0xc1, 0x23, 0x45, 0x67]] {
+            let bytes = [&[opcode], operands].concat();
+            let triple = annotations(&bytes).next().unwrap().unwrap().annotation.triple();
+            match step(&bytes, 0).0 {
+                Step::Annotation { opcode, first, second, .. } => assert_eq!(triple, [opcode.into(), first, second]),
+                other => panic!("{other:?}"),
+            }
+        }
+    }
+    // Operands that no bytes carry.
+    assert_eq!(ChangeColumnEnd(u32::MAX).triple(), [13, 4_294_967_295, 0]);
+    assert_eq!(ChangeColumnEndDelta(i32::MIN).triple(), [10, -2_147_483_648, 0]);
+}
+
+#[test]
 fn what_is_no_annotation() {
     for opcode in [0, 14, u32::MAX] {
         assert_eq!(BinaryAnnotation::new(opcode, 0, 0), None);
