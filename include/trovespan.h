@@ -1,5 +1,5 @@
 /*
- * trovespan.h: the container of PDB files (MSF) and binary annotations, read by a proved library.
+ * trovespan.h: reads the container of PDB files (MSF), and reads and writes binary annotations, with a proved library.
  *
  * Link with libtrovespan.a, which `rt staticlib trovespan` makes in target/staticlib. It is code for x86-64 Linux. It needs
  * no other library, allocates nothing, and keeps no pointer and no state, so any number of threads may call it.
@@ -16,7 +16,7 @@
  *
  * - Memory for as many entries as a length says is there. An input can be read; a store, and a number of the answer, can be
  *   read and written. With length 0 nothing is read or written, and the pointer may be null.
- * - Stores and numbers are aligned for their type.
+ * - Inputs, stores and numbers are aligned for their type.
  * - A store or number overlaps no other store or number, nor the input.
  * - Lent bytes do not change during the call, except by the call itself. The functions judge the input first and then write
  *   without checking again, so if the input changes in between, they may write past a store. A mapping of a file that another
@@ -36,7 +36,10 @@
 extern "C" {
 #endif
 
-/* Why a function refuses. If several conditions hold, the first one met in reading decides. */
+/*
+ * Why a function refuses. If several conditions hold, the first one met in reading decides. trovespan_write_annotations
+ * judges in the order 21, 20, 10.
+ */
 enum {
     /* Value 0. The file has fewer than 4,096 bytes, or does not begin with the magic of a PDB file. */
     TROVESPAN_UNRECOGNIZED_FILE_FORMAT = 1,
@@ -57,7 +60,11 @@ enum {
     /* The opcode. An annotation's opcode is above 13. */
     TROVESPAN_UNKNOWN_BINARY_ANNOTATION = 9,
     /* The entries needed. The answer is complete, but the store is too small for it. */
-    TROVESPAN_NO_ROOM = 10
+    TROVESPAN_NO_ROOM = 10,
+    /* The record's index, from 0. A record has an opcode or operand that cannot be written. */
+    TROVESPAN_BAD_RECORD = 20,
+    /* Value 0. The length of a list of records is no multiple of 3. */
+    TROVESPAN_RAGGED_LIST = 21
 };
 
 /* Opens a container. `value` is the page size, `used` the number of pages used. Refuses with 1, 2, 3, 4 or 7. */
@@ -110,6 +117,24 @@ uint32_t trovespan_step(const uint8_t *bytes, size_t bytes_len, size_t at, uint6
  */
 uint32_t trovespan_decode(const uint8_t *bytes, size_t bytes_len, int64_t *store, size_t store_len, uint64_t *value,
                           uint64_t *place);
+
+/*
+ * Writes annotations as bytes to the front of `out`. `records` has three numbers for each, as trovespan_decode writes them:
+ * opcode, first operand, second operand or 0. `value` is the number of bytes written. Every number has its shortest form, no
+ * opcode 0 closes the bytes, and decoding them gives the same records. A record takes 2 to 9 bytes. The empty list is
+ * accepted, and writes nothing.
+ *
+ *     opcode                first operand              second operand
+ *     1 to 5, 7 to 9, 13    0 to 536870911             0
+ *     6, 10                 -268435455 to 268435455    0
+ *     11                    0 to 15                    -16777215 to 16777215
+ *     12                    0 to 536870911             0 to 536870911
+ *
+ * Refuses with 21 if `records_len` is no multiple of 3; else with 20 for the first record that holds anything else; else with
+ * 10 if `out` is too short.
+ */
+uint32_t trovespan_write_annotations(const int64_t *records, size_t records_len, uint8_t *out, size_t out_len,
+                                     uint64_t *value);
 
 #ifdef __cplusplus
 }

@@ -130,6 +130,26 @@ static void decode(void) {
     CHECK(memcmp(store, wanted, sizeof wanted) == 0 && untouched(store + 6, 8));
 }
 
+static void write_annotations(void) {
+    static const int64_t records[] = {3, 5, 0, 11, 2, -3, 6, -7, 0, 12, 0x102, 0x10000};
+    static const int64_t wrong[] = {3, 5, 0, 3, 5, 1, 14, 0, 0};
+    static const uint8_t wanted[] = {3, 5, 11, 0x72, 6, 15, 12, 0x81, 2, 0xc0, 1, 0, 0};
+    uint8_t out[14];
+    int64_t store[12];
+    uint64_t value = 77, place = 77;
+    memset(out, UNTOUCHED, sizeof out);
+    CHECK(trovespan_write_annotations(wrong, 8, out, 14, &value) == TROVESPAN_RAGGED_LIST && value == 0);
+    CHECK(trovespan_write_annotations(wrong, 9, out, 14, &value) == TROVESPAN_BAD_RECORD && value == 1);
+    CHECK(trovespan_write_annotations(records, 12, out, 12, &value) == TROVESPAN_NO_ROOM && value == 13);
+    CHECK(trovespan_write_annotations(records, 12, NULL, 0, &value) == TROVESPAN_NO_ROOM && value == 13);
+    CHECK(trovespan_write_annotations(NULL, 0, out, 14, &value) == 0 && value == 0);
+    CHECK(untouched(out, sizeof out));
+    CHECK(trovespan_write_annotations(records, 12, out, 14, &value) == 0 && value == 13);
+    CHECK(memcmp(out, wanted, sizeof wanted) == 0 && untouched(out + 13, 1));
+    CHECK(trovespan_decode(out, 13, store, 12, &value, &place) == 0 && value == 4);
+    CHECK(memcmp(store, records, sizeof records) == 0);
+}
+
 int main(void) {
     make_f();
     open_and_count();
@@ -137,6 +157,7 @@ int main(void) {
     extract();
     annotations();
     decode();
+    write_annotations();
     printf("%d\n", checks);
     return failed > 0;
 }
