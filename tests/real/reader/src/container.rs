@@ -36,38 +36,49 @@ impl<'a> Container<'a> {
         Ok(Container { file, opened, count })
     }
 
-    /// The text about the container and its streams, and the streams.
-    pub fn streams(&self, totals: &mut Totals) -> Result<(String, Vec<Stream>), String> {
+    /// The text about the container and its streams.
+    pub fn text(&self, totals: &mut Totals) -> Result<String, String> {
         let mut text = format!(
             "Block Size: {}\nNumber of blocks: {}\nNumber of streams: {}\n",
             self.opened.page_size, self.opened.pages_used, self.count
         );
-        let mut streams = Vec::new();
         for number in 0..self.count {
-            let stream = match self.map(number)? {
-                Some(mapping) => Some(self.present(number, &mapping, &mut text, totals)?),
+            match self.map(number)? {
+                Some(mapping) => self.describe(number, &mapping, &mut text, totals)?,
                 None => {
                     writeln!(text, "Stream {number} ({ABSENT} bytes)\nBlocks: []").unwrap();
                     totals.absent += 1;
-                    None
                 }
-            };
-            streams.push(stream);
+            }
+            totals.streams += 1;
         }
-        totals.streams += streams.len();
-        Ok((text, streams))
+        Ok(text)
     }
 
-    fn present(&self, number: u32, mapping: &Mapping, text: &mut String, totals: &mut Totals) -> Result<Vec<u8>, String> {
+    fn describe(&self, number: u32, mapping: &Mapping, text: &mut String, totals: &mut Totals) -> Result<(), String> {
         let pages = self.pages(mapping)?;
         let list = pages.iter().map(u64::to_string).collect::<Vec<_>>().join(", ");
         writeln!(text, "Stream {number} ({} bytes)\nBlocks: [{list}]", mapping.length).unwrap();
-        let bytes = self.extract(number, mapping)?;
         totals.pages += pages.len();
         totals.slices += mapping.sizes.len();
-        totals.bytes += bytes.len();
-        totals.empty += usize::from(bytes.is_empty());
-        Ok(bytes)
+        totals.bytes += mapping.length;
+        totals.empty += usize::from(mapping.length == 0);
+        Ok(())
+    }
+
+    pub fn streams(&self) -> Result<Vec<Stream>, String> {
+        let stream = |number| self.map(number)?.map(|mapping| self.extract(number, &mapping)).transpose();
+        (0..self.count).map(stream).collect()
+    }
+
+    /// Puts the streams' bytes into their slices, in a copy of the file. Each has as many bytes as before.
+    pub fn put(&self, streams: &[Stream], copy: &mut [u8]) -> Result<(), String> {
+        for (number, stream) in (0..).zip(streams) {
+            if let (Some(mapping), Some(bytes)) = (self.map(number)?, stream) {
+                mapping.put(bytes, copy);
+            }
+        }
+        Ok(())
     }
 
     /// `None` if the stream is absent. The first call asks for the room needed.
@@ -110,6 +121,16 @@ impl<'a> Container<'a> {
             return Err(format!("the bytes of stream {number} are not those of its slices"));
         }
         Ok(bytes)
+    }
+}
+
+impl Mapping {
+    fn put(&self, mut bytes: &[u8], file: &mut [u8]) {
+        for (&offset, &size) in self.offsets.iter().zip(&self.sizes) {
+            let (slice, rest) = bytes.split_at(size as usize);
+            file[offset as usize..][..slice.len()].copy_from_slice(slice);
+            bytes = rest;
+        }
     }
 }
 

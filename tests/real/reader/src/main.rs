@@ -1,13 +1,16 @@
-//! `reader OUT FILE...` reads PDB files through the crate, and writes what llvm-pdbutil would say about each into a folder
-//! of its name below OUT: `streams`, the container and each stream's size and pages; `sites`, every inline site and its
-//! annotations; and `stream.N`, the bytes of stream N. Then it prints the totals as `NAME COUNT` lines.
+//! `reader read OUT FILE...` reads PDB files through the crate, and writes what llvm-pdbutil would say about each into a
+//! folder of its name below OUT: `streams`, the container and each stream's size and pages; `sites`, every inline site
+//! and its annotations; and `stream.N`, the bytes of stream N.
 //!
-//! It skips nothing: it stops at what it cannot read.
+//! `reader rewrite OUT FILE...` writes a copy of each file to OUT, with the annotations of every site written again.
+//!
+//! Both then print the totals as `NAME COUNT` lines. They skip nothing: they stop at what they cannot read.
 
 mod annotations;
 mod bytes;
 mod container;
 mod modules;
+mod rewrite;
 mod sites;
 mod totals;
 
@@ -16,21 +19,29 @@ use std::process::exit;
 use std::{env, fs};
 
 use container::Container;
+use rewrite::Saving;
 use totals::Totals;
 
 fn main() {
     let words: Vec<String> = env::args().skip(1).collect();
-    let (out, files) = match words.split_first() {
-        Some((out, files)) if !files.is_empty() => (out, files),
-        _ => stop("usage: reader OUT FILE..."),
+    let words: Vec<&str> = words.iter().map(String::as_str).collect();
+    let text = match words.as_slice() {
+        ["read", out, files @ ..] => each(out, files, read).text(),
+        ["rewrite", out, files @ ..] => each(out, files, rewrite).text(),
+        _ => stop("usage: reader read|rewrite OUT FILE..."),
     };
-    let mut totals = Totals::default();
+    print!("{text}");
+}
+
+/// The totals over all files.
+fn each<T: Default>(out: &str, files: &[&str], answer: fn(&Path, &Path, &mut T) -> Result<(), String>) -> T {
+    let mut totals = T::default();
     for file in files {
-        if let Err(why) = read(Path::new(out), Path::new(file), &mut totals) {
+        if let Err(why) = answer(Path::new(out), Path::new(file), &mut totals) {
             stop(&format!("{file}: {why}"));
         }
     }
-    print!("{}", totals.text());
+    totals
 }
 
 fn read(out: &Path, file: &Path, totals: &mut Totals) -> Result<(), String> {
@@ -39,8 +50,8 @@ fn read(out: &Path, file: &Path, totals: &mut Totals) -> Result<(), String> {
     fs::create_dir_all(&folder).map_err(told)?;
     let file = fs::read(file).map_err(told)?;
     let container = Container::open(&file)?;
-    let (text, streams) = container.streams(totals)?;
-    fs::write(folder.join("streams"), text).map_err(told)?;
+    fs::write(folder.join("streams"), container.text(totals)?).map_err(told)?;
+    let streams = container.streams()?;
     for (number, stream) in streams.iter().enumerate() {
         if let Some(bytes) = stream {
             fs::write(folder.join(format!("stream.{number}")), bytes).map_err(told)?;
@@ -49,6 +60,12 @@ fn read(out: &Path, file: &Path, totals: &mut Totals) -> Result<(), String> {
     fs::write(folder.join("sites"), sites::text(&streams, totals)?).map_err(told)?;
     totals.files += 1;
     Ok(())
+}
+
+fn rewrite(out: &Path, file: &Path, saving: &mut Saving) -> Result<(), String> {
+    let name = file.file_name().ok_or("a file with no name")?;
+    let copy = rewrite::shortened(&fs::read(file).map_err(told)?, saving)?;
+    fs::write(out.join(name), copy).map_err(told)
 }
 
 fn told(why: std::io::Error) -> String {

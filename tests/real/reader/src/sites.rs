@@ -2,6 +2,7 @@
 //! inlinees' names.
 
 use std::fmt::Write;
+use std::ops::Range;
 
 use crate::annotations;
 use crate::bytes::{half, part, word};
@@ -22,15 +23,41 @@ const END: usize = 8;
 const INLINEE: usize = 12;
 const ANNOTATIONS: usize = 16;
 
+/// Where a site is: the stream of its module, and its record there.
+pub struct Site {
+    pub stream: usize,
+    record: Range<usize>,
+}
+
+impl Site {
+    /// Where its annotations are in the stream, to the end of the record.
+    pub fn annotations(&self) -> Range<usize> {
+        self.record.start + ANNOTATIONS..self.record.end
+    }
+}
+
 pub fn text(streams: &[Stream], totals: &mut Totals) -> Result<String, String> {
-    let dbi = stream(streams, DBI)?;
     let mut text = String::new();
-    for (number, module) in modules(dbi)?.iter().enumerate() {
+    for (number, module) in modules(stream(streams, DBI)?)?.iter().enumerate() {
         writeln!(text, "Mod {number:04}").unwrap();
-        write_module(streams, number, module, &mut text, totals)?;
+        if module.stream.is_none() {
+            writeln!(text, "Error loading module stream {number}.  The specified stream could not be loaded. Module stream not present").unwrap();
+        }
+        for site in in_module(streams, module)? {
+            write_site(streams, &site, &mut text, totals)?;
+        }
         totals.modules += 1;
     }
     Ok(text)
+}
+
+/// The sites of all modules.
+pub fn all(streams: &[Stream]) -> Result<Vec<Site>, String> {
+    let mut sites = Vec::new();
+    for module in modules(stream(streams, DBI)?)? {
+        sites.extend(in_module(streams, &module)?);
+    }
+    Ok(sites)
 }
 
 fn stream(streams: &[Stream], number: usize) -> Result<&[u8], String> {
@@ -38,33 +65,34 @@ fn stream(streams: &[Stream], number: usize) -> Result<&[u8], String> {
     stream.ok_or_else(|| format!("there is no stream {number}"))
 }
 
-fn write_module(streams: &[Stream], number: usize, module: &Module, text: &mut String, totals: &mut Totals) -> Result<(), String> {
-    let symbols = match module.stream {
-        Some(from) => part(stream(streams, from)?, 0, module.symbols_size)?,
-        None => {
-            writeln!(text, "Error loading module stream {number}.  The specified stream could not be loaded. Module stream not present").unwrap();
-            return Ok(());
-        }
+/// A module without a stream has no sites.
+fn in_module(streams: &[Stream], module: &Module) -> Result<Vec<Site>, String> {
+    let mut sites = Vec::new();
+    let from = match module.stream {
+        Some(from) => from,
+        None => return Ok(sites),
     };
+    let symbols = part(stream(streams, from)?, 0, module.symbols_size)?;
     let mut at = 4; // after the signature
     while at < symbols.len() {
         let size = usize::from(half(symbols, at)?) + 2;
-        let record = part(symbols, at, size)?;
-        match half(record, KIND)? {
-            INLINE_SITE => write_site(at, record, text, totals)?,
-            INLINE_SITE_2 => return Err(format!("module {number} has an S_INLINESITE2 at {at}")),
+        match half(part(symbols, at, size)?, KIND)? {
+            INLINE_SITE => sites.push(Site { stream: from, record: at..at + size }),
+            INLINE_SITE_2 => return Err(format!("stream {from} has an S_INLINESITE2 at {at}")),
             _ => {}
         }
         at += size;
     }
-    Ok(())
+    Ok(sites)
 }
 
-fn write_site(at: usize, record: &[u8], text: &mut String, totals: &mut Totals) -> Result<(), String> {
+fn write_site(streams: &[Stream], site: &Site, text: &mut String, totals: &mut Totals) -> Result<(), String> {
+    let stream = stream(streams, site.stream)?;
+    let (at, record) = (site.record.start, &stream[site.record.clone()]);
     let (parent, end, inlinee) = (word(record, PARENT)?, word(record, END)?, word(record, INLINEE)?);
     writeln!(text, "{at} | S_INLINESITE [size = {}]", record.len()).unwrap();
     writeln!(text, "inlinee = 0x{inlinee:04X}, parent = {parent}, end = {end}").unwrap();
-    annotations::write(part(record, ANNOTATIONS, record.len() - ANNOTATIONS)?, text, totals)?;
+    annotations::write(&stream[site.annotations()], text, totals)?;
     totals.sites += 1;
     Ok(())
 }
