@@ -1,6 +1,6 @@
 //! Measures ours, through the crate `trovespan`, and pdb's own code, on the same inputs in one process.
-//! This is built into the oracle of `tests/differential`, which has pdb's code; `bench/run` builds and
-//! runs it.
+//! What pdb cannot do is measured alone. This is built into the oracle of `tests/differential`, which has
+//! pdb's code; `bench/run` builds and runs it.
 //!
 //! Time is the processor time of the thread. Both have the file in memory. Ours answers into lent stores,
 //! which are cleared before each run, except where a case says otherwise. pdb's time includes allocating
@@ -11,9 +11,10 @@ mod inputs;
 mod timing;
 
 use std::io::{self, Write};
+use std::iter::once;
 
 use cases::{cases, Case};
-use timing::{measure, Runs, Stores, REFUSED, RUNS};
+use timing::{measure, Call, Runs, Stores, REFUSED, RUNS};
 
 const HEAD: &str =
     "# X and Y are the processor time of a call, or million bytes of the stream or of \
@@ -22,50 +23,57 @@ const HEAD: &str =
 pub fn run(out: &mut impl Write) -> io::Result<()> {
     let mut stores = Stores::new();
     let cases = cases(2);
-    let runs: Vec<(Runs, Runs)> = cases.iter().map(|case| both(case, &mut stores)).collect();
+    let runs: Vec<_> = cases.iter().map(|case| both(case, &mut stores)).collect();
     writeln!(out, "{}\n# The median of {} runs", HEAD, RUNS)?;
     for (case, (ours, theirs)) in cases.iter().zip(&runs) {
-        write_ratio(out, case, "ratio", ours.median(), theirs.median())?;
+        let theirs = theirs.as_ref().map(Runs::median);
+        write_speed(out, case, "", ours.median(), theirs)?;
     }
     writeln!(out, "# The best of them")?;
     for (case, (ours, theirs)) in cases.iter().zip(&runs) {
-        write_ratio(out, case, "best ratio", ours.best(), theirs.best())?;
+        let theirs = theirs.as_ref().map(Runs::best);
+        write_speed(out, case, "best ", ours.best(), theirs)?;
     }
     writeln!(out, "# Ours: how many times as long as with half the work")?;
     write_doublings(out, &cases, &mut stores)
 }
 
-/// Both sides' runs. Checks by the calls' figures that both did the same.
-fn both(case: &Case, stores: &mut Stores) -> (Runs, Runs) {
-    let figures = ((case.ours)(stores), (case.theirs)(stores));
-    if figures.0 == REFUSED || figures.0 != figures.1 {
+/// The runs of ours, and of theirs if there is one. Checks by the calls' figures that both did the same.
+fn both(case: &Case, stores: &mut Stores) -> (Runs, Option<Runs>) {
+    let ours = (case.ours)(stores);
+    let theirs = case.theirs.as_ref().map(|theirs| theirs(stores));
+    if ours == REFUSED || theirs.unwrap_or(ours) != ours {
+        let figures = (ours, theirs);
         crate::stop(&format!("bench: {} answers {:?}", case.name, figures));
     }
-    let mut runs = measure(&[&*case.ours, &*case.theirs], stores);
-    let theirs = runs.remove(1);
-    (runs.remove(0), theirs)
+    let calls: Vec<&Call> = once(&*case.ours).chain(case.theirs.as_deref()).collect();
+    let mut runs = measure(&calls, stores).into_iter();
+    (runs.next().expect("ours is measured"), runs.next())
 }
 
-fn write_ratio(
+/// Writes `NAME ratio R (ours X, theirs Y)`, or `NAME ours X` if there is no other side.
+fn write_speed(
     out: &mut impl Write,
     case: &Case,
-    what: &str,
+    which: &str,
     ours: f64,
-    theirs: f64,
+    theirs: Option<f64>,
 ) -> io::Result<()> {
     let shown = |seconds| match case.bytes {
         Some(bytes) => format!("{:.1} MB/s", bytes as f64 / seconds / 1e6),
         None => time(seconds),
     };
-    let both = format!("ours {}, theirs {}", shown(ours), shown(theirs));
-    writeln!(
-        out,
-        "{} {} {:.3} ({})",
-        case.name,
-        what,
-        theirs / ours,
-        both
-    )
+    write!(out, "{} {}", case.name, which)?;
+    match theirs {
+        Some(theirs) => writeln!(
+            out,
+            "ratio {:.3} (ours {}, theirs {})",
+            theirs / ours,
+            shown(ours),
+            shown(theirs)
+        ),
+        None => writeln!(out, "ours {}", shown(ours)),
+    }
 }
 
 /// Compares the best runs, since they are the least disturbed. Opening is left out: a longer file is no

@@ -7,7 +7,8 @@ use std::rc::Rc;
 use trovespan::{Step, ENTRIES_EACH};
 
 use super::inputs::{
-    annotations, in_long_slices, in_single_pages, of_streams, LONGEST_STREAM, MOST_ANNOTATIONS, PAGE,
+    annotations, in_long_slices, in_single_pages, of_streams, records, LONGEST_STREAM,
+    MOST_ANNOTATIONS, PAGE,
 };
 use super::timing::{Call, Stores, REFUSED};
 use crate::annotations::triple;
@@ -21,7 +22,8 @@ pub struct Case {
     /// The number of bytes a call processes, if throughput is measured.
     pub bytes: Option<usize>,
     pub ours: Box<Call>,
-    pub theirs: Box<Call>,
+    /// `None` if pdb has nothing that does this.
+    pub theirs: Option<Box<Call>>,
 }
 
 /// The cases, with `halves` halves of the work. Opening is the first.
@@ -44,6 +46,7 @@ pub fn cases(halves: usize) -> Vec<Case> {
         all_streams(of_streams(2000 * halves), 2000 * halves as u32),
         steps(annotations),
         decoding(annotations),
+        writing(annotations),
     ]
 }
 
@@ -53,7 +56,7 @@ fn opening(file: &'static [u8]) -> Case {
         name: "open",
         bytes: None,
         ours: Box::new(move |_| trovespan::open(file).is_ok().into()),
-        theirs: Box::new(move |_| opened(file).is_some().into()),
+        theirs: Some(Box::new(move |_| opened(file).is_some().into())),
     }
 }
 
@@ -73,7 +76,7 @@ fn mapping(name: &'static str, file: &'static [u8], stream: u32) -> Case {
             let mapped = trovespan::map(file, stream, None, &mut stores.offsets, &mut stores.sizes);
             mapped.map_or(REFUSED, |mapped| (mapped.slices + mapped.length) as u64)
         }),
-        theirs: Box::new(move |_| {
+        theirs: Some(Box::new(move |_| {
             let slices = Rc::default();
             let source = Unread {
                 file: Cursor::new(file),
@@ -84,7 +87,7 @@ fn mapping(name: &'static str, file: &'static [u8], stream: u32) -> Case {
             let length = got.map_or(0, |stream| stream.len());
             let slices = slices.take();
             (slices.len() + length) as u64
-        }),
+        })),
     }
 }
 
@@ -98,7 +101,7 @@ fn extraction(file: &'static [u8], length: usize) -> Case {
             let extracted = trovespan::extract(file, 0, None, &mut stores.bytes);
             extracted.map_or(REFUSED, |length| figure(&stores.bytes[..length]))
         }),
-        theirs: Box::new(move |_| read_by_pdb(file, None)),
+        theirs: Some(Box::new(move |_| read_by_pdb(file, None))),
     }
 }
 
@@ -109,7 +112,7 @@ fn fresh_extraction(file: &'static [u8], length: usize) -> Case {
         name: "extract-fresh",
         bytes: Some(length),
         ours: Box::new(move |_| fresh(file).map_or(REFUSED, |stream| figure(&stream))),
-        theirs: Box::new(move |_| read_by_pdb(file, None)),
+        theirs: Some(Box::new(move |_| read_by_pdb(file, None))),
     }
 }
 
@@ -122,7 +125,7 @@ fn first_page(file: &'static [u8]) -> Case {
             let extracted = trovespan::extract(file, 0, Some(PAGE), &mut stores.bytes);
             extracted.map_or(REFUSED, |length| figure(&stores.bytes[..length]))
         }),
-        theirs: Box::new(move |_| read_by_pdb(file, Some(PAGE))),
+        theirs: Some(Box::new(move |_| read_by_pdb(file, Some(PAGE)))),
     }
 }
 
@@ -155,12 +158,12 @@ fn all_streams(file: &'static [u8], count: u32) -> Case {
             };
             (0..count).map(extracted).sum()
         }),
-        theirs: Box::new(move |_| {
+        theirs: Some(Box::new(move |_| {
             open_msf(Cursor::new(file)).map_or(REFUSED, |mut msf| {
                 let read = |stream| msf.get(stream, None).map_or(REFUSED, |got| figure(&got));
                 (0..count).map(read).sum()
             })
-        }),
+        })),
     }
 }
 
@@ -184,14 +187,14 @@ fn steps(bytes: &'static [u8]) -> Case {
             }
             sum as u64
         }),
-        theirs: Box::new(move |_| {
+        theirs: Some(Box::new(move |_| {
             let mut sum = 0;
             let mut iter = BinaryAnnotations::new(bytes).iter();
             while let Ok(Some(annotation)) = iter.next() {
                 sum += triple(annotation).iter().sum::<i64>();
             }
             sum as u64
-        }),
+        })),
     }
 }
 
@@ -217,7 +220,7 @@ fn decoding(bytes: &'static [u8]) -> Case {
         ours: Box::new(move |stores| {
             trovespan::decode(bytes, &mut stores.entries).map_or(REFUSED, |count| count as u64)
         }),
-        theirs: Box::new(move |stores| written(bytes, stores)),
+        theirs: Some(Box::new(move |stores| written(bytes, stores))),
     }
 }
 
@@ -230,6 +233,21 @@ fn written(bytes: &'static [u8], stores: &mut Stores) -> u64 {
         count += 1;
     }
     count
+}
+
+/// All annotations again, from their records to bytes in a lent store. Ours writes nothing before it has
+/// judged all; pdb writes no annotations. The bytes that count are those written, in shortest forms.
+fn writing(bytes: &'static [u8]) -> Case {
+    let records = records(bytes);
+    let write = move |out: &mut [u8]| trovespan::write_annotations(records, out);
+    Case {
+        name: "write",
+        bytes: write(&mut vec![0; bytes.len()]).ok(),
+        ours: Box::new(move |stores| {
+            write(&mut stores.bytes).map_or(REFUSED, |length| length as u64)
+        }),
+        theirs: None,
+    }
 }
 
 /// pdb's own source over a `Cursor`, except that a stream is not read: its slices are kept, and the view

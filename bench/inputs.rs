@@ -1,5 +1,8 @@
-//! The inputs: containers of 4,096-byte pages, and annotations. They are the same at each run, and stay in
-//! memory until the program ends, since a view for pdb may not borrow from anything that ends earlier.
+//! The inputs: containers of 4,096-byte pages, and annotations, as bytes and as records. They are the same at
+//! each run, and stay in memory until the program ends, since a view for pdb may not borrow from anything that
+//! ends earlier.
+
+use trovespan::ENTRIES_EACH;
 
 use crate::container::{need, stream, Container};
 use crate::random::Random;
@@ -76,6 +79,14 @@ pub fn annotations(length: usize) -> &'static [u8] {
     }
     bytes.resize(length, 0);
     Box::leak(bytes.into_boxed_slice())
+}
+
+/// The records that the annotations decode to.
+pub fn records(annotations: &[u8]) -> &'static [i64] {
+    let mut records = vec![0; ENTRIES_EACH * MOST_ANNOTATIONS];
+    let count = trovespan::decode(annotations, &mut records).expect("every annotation is one");
+    records.truncate(ENTRIES_EACH * count);
+    Box::leak(records.into_boxed_slice())
 }
 
 fn put_operand(random: &mut Random, bytes: &mut Vec<u8>) {
