@@ -23,10 +23,23 @@ impl Comparison {
         }
     }
 
-    /// Compares both answers to a question of a record. Prints the first difference, with the question,
-    /// and ends the program. A question without an answer is not counted.
+    /// Compares both answers to a question of a record, and counts it if it has an answer.
     pub fn compare<P: Display + PartialEq>(
         &mut self,
+        record: usize,
+        ours: Answer<P>,
+        theirs: Answer<P>,
+        question: impl FnOnce() -> String,
+    ) {
+        let answered = !theirs.is_empty();
+        self.check(record, ours, theirs, question);
+        self.count(usize::from(answered));
+    }
+
+    /// Compares both answers to a question of a record. Prints the first difference, with the question,
+    /// and ends the program.
+    pub fn check<P: Display + PartialEq>(
+        &self,
         record: usize,
         mut ours: Answer<P>,
         theirs: Answer<P>,
@@ -40,9 +53,10 @@ impl Comparison {
             print!("{}", difference(&ours, &theirs));
             std::process::exit(1);
         }
-        if !theirs.is_empty() {
-            self.questions += 1;
-        }
+    }
+
+    pub fn count(&mut self, questions: usize) {
+        self.questions += questions;
     }
 
     /// Prints how many questions were compared.
@@ -73,7 +87,7 @@ fn difference<P: Display + PartialEq>(ours: &Answer<P>, theirs: &Answer<P>) -> S
         None => "nothing".to_string(),
     };
     format!(
-        "  ours, {}\n  pdb, {}\n  they part at word {}, from 0\n",
+        "  ours, {}\n  wanted, {}\n  they part at word {}, from 0\n",
         shown(ours),
         shown(theirs),
         word

@@ -7,7 +7,8 @@
 //!
 //! These are about binary annotations. record-msf, live-msf, show-msf and alter-msf are about
 //! containers: COUNT is the number of random containers, with several questions about each. The same
-//! words with -buffer are about the reads of a parse buffer.
+//! words with -buffer are about the reads of a parse buffer, those with -writer about writing
+//! annotations: COUNT is the number of random lists of annotations.
 //!
 //!     oracle isolation-msf SEED COUNT  COUNT pairs of containers that agree on what a stream's
 //!                                      answers depend on, for which pdb must answer the same
@@ -17,10 +18,11 @@
 //! With the feature `ours` our library is asked too, through the crate `trovespan`:
 //!
 //!     oracle compare SUBJECT SEED COUNT  compares our answers with pdb's on the questions of that live
-//!                                        list. SUBJECT is annotations, msf or isolation
+//!                                        list. SUBJECT is annotations, msf, isolation or writer
 //!     oracle compare SUBJECT             the same on the fixed list, which isolation does not have
-//!     oracle compare SUBJECT large       the same on strings, or files, too large for a list: their
-//!                                        places, counts and sizes exceed 16, 24 and 32 bits
+//!     oracle compare SUBJECT large       the same on strings, files or lists of annotations that are
+//!                                        too large for a list of questions: their places,
+//!                                        counts and sizes exceed 16, 24 and 32 bits
 //!     oracle compare-altered N ..        the same, with our answer to record N made wrong
 //!     oracle bench                       measures both (`bench/run`)
 
@@ -61,12 +63,14 @@ mod container;
 mod digest;
 mod random;
 mod records;
+mod writer;
 
 const USAGE: &str = "usage: oracle record | live SEED COUNT | show N | alter N, \
-                     or the same with -msf or -buffer after the first word, \
+                     or the same with -msf, -buffer or -writer after the first word, \
                      or isolation-msf SEED COUNT | file-msf NAME | listing-msf, \
-                     or with the feature ours compare annotations|msf|isolation [large | SEED COUNT] \
-                     | compare-altered N annotations|msf|isolation [large | SEED COUNT] | bench";
+                     or with the feature ours compare SUBJECT [large | SEED COUNT] \
+                     | compare-altered N SUBJECT [large | SEED COUNT] | bench, \
+                     where SUBJECT is annotations, msf, isolation or writer";
 
 fn main() {
     let words: Vec<String> = std::env::args().skip(1).collect();
@@ -106,6 +110,16 @@ fn answer(words: &[&str], out: &mut impl Write) -> io::Result<()> {
         ["alter-buffer", n] => {
             out.write_all(&buffer::LAYOUT.altered(&read(), number(n) as usize))?
         }
+        ["record-writer"] => writer::write(writer::fixed(), out)?,
+        ["live-writer", seed, count] => {
+            writer::write(writer::live(number(seed), number(count)), out)?
+        }
+        ["show-writer", n] => {
+            out.write_all(writer::show(&read(), number(n) as usize).as_bytes())?
+        }
+        ["alter-writer", n] => {
+            out.write_all(&writer::LAYOUT.altered(&read(), number(n) as usize))?
+        }
         #[cfg(feature = "ours")]
         ["compare", ref asked @ ..] => compare(asked, None, out)?,
         #[cfg(feature = "ours")]
@@ -138,6 +152,11 @@ fn compare(asked: &[&str], altered: Option<usize>, out: &mut impl Write) -> io::
             container::judged_pairs(number(seed), number(count), |records| {
                 container::compare(records, &mut comparison)
             })
+        }
+        ["writer"] => writer::compare(writer::fixed(), &mut comparison),
+        ["writer", "large"] => writer::compare(writer::large(), &mut comparison),
+        ["writer", seed, count] => {
+            writer::compare(writer::live(number(seed), number(count)), &mut comparison)
         }
         _ => stop(USAGE),
     }

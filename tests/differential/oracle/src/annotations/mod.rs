@@ -14,11 +14,13 @@ mod questions;
 mod rules;
 mod show;
 
+pub use answers::{Refusal, ENTRIES_EACH};
 #[cfg(feature = "ours")]
 pub use compare::compare;
 #[cfg(feature = "ours")]
 pub use large::large;
 pub use list::{write, LAYOUT};
+pub use pdb::read_whole;
 #[cfg(feature = "ours")]
 pub use pdb::triple;
 pub use questions::{fixed, live};

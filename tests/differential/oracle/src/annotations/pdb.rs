@@ -62,6 +62,18 @@ fn entries(bytes: &[u8]) -> Result<Vec<i64>, (Refusal, usize)> {
     }
 }
 
+/// The store entries of the annotations, if every byte is part of one.
+pub fn read_whole(bytes: &[u8]) -> Option<Vec<i64>> {
+    let mut iter = iter_at(bytes, 0);
+    let mut entries = Vec::new();
+    let mut read = 0;
+    while let Some(annotation) = iter.next().ok()? {
+        entries.extend_from_slice(&triple(annotation));
+        read = iter.buffer.pos();
+    }
+    (read == bytes.len()).then_some(entries)
+}
+
 /// The number of store entries that the annotations take, up to the end or the first refusal.
 pub fn needed(bytes: &[u8]) -> usize {
     let mut needed = 0;

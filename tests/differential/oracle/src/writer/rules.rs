@@ -1,0 +1,94 @@
+//! The rules of request 2026-01, each with the smallest lists that tell it from its neighbour.
+
+use super::list::Question;
+
+/// Two bytes more than the longest of these lists takes.
+const LARGEST_NAMED_ROOM: usize = 8;
+
+pub fn questions() -> Vec<Question> {
+    [bytes(), bad_records(), ranges(), order()].concat()
+}
+
+fn bytes() -> Vec<Question> {
+    let mut questions = vec![
+        // The empty list is accepted, and nothing closes a list.
+        ask(&[]),
+        ask(&[3, 5, 0]),
+        // The shortest form of each number.
+        ask(&[3, 127, 0]),
+        ask(&[3, 128, 0]),
+        ask(&[3, 16_383, 0]),
+        ask(&[3, 16_384, 0]),
+        // A signed operand: signed 0 is operand 0.
+        ask(&[6, 0, 0]),
+        ask(&[6, 1, 0]),
+        ask(&[6, -1, 0]),
+        ask(&[10, -7, 0]),
+        ask(&[11, 2, -3]),
+        ask(&[11, 0, 0]),
+        // Two operands.
+        ask(&[12, 3, 7]),
+    ];
+    // One operand, or the first of two.
+    questions.extend((1..=13).map(|opcode| ask(&[opcode, 5, 0])));
+    questions
+}
+
+fn bad_records() -> Vec<Question> {
+    vec![
+        // An opcode outside 1 to 13.
+        ask(&[0, 5, 0]),
+        ask(&[14, 5, 0]),
+        ask(&[-1, 5, 0]),
+        // A second number that should be 0.
+        ask(&[3, 5, 1]),
+        ask(&[6, 5, -1]),
+        ask(&[13, 5, 1]),
+        // The index of the first bad record.
+        ask(&[3, 5, 0, 14, 5, 0]),
+        ask(&[3, 5, 0, 3, 5, 0, 3, -1, 0]),
+        ask(&[3, 5, 0, 14, 5, 0, 0, 5, 0]),
+    ]
+}
+
+/// Both ends of each range, and one past each end.
+fn ranges() -> Vec<Question> {
+    let mut questions = Vec::new();
+    for &operand in &[-1, 0, 536_870_911, 536_870_912] {
+        questions.push(ask(&[3, operand, 0]));
+        questions.push(ask(&[12, operand, 0]));
+        questions.push(ask(&[12, 0, operand]));
+    }
+    for &operand in &[-268_435_456, -268_435_455, 268_435_455, 268_435_456] {
+        questions.push(ask(&[6, operand, 0]));
+        questions.push(ask(&[10, operand, 0]));
+    }
+    for &operand in &[-1, 0, 15, 16] {
+        questions.push(ask(&[11, operand, 0]));
+    }
+    for &operand in &[-16_777_216, -16_777_215, 16_777_215, 16_777_216] {
+        questions.push(ask(&[11, 15, operand]));
+    }
+    questions
+}
+
+fn order() -> Vec<Question> {
+    vec![
+        // 21 comes first,
+        ask(&[3]),
+        ask(&[3, 5]),
+        ask(&[14, 5, 0, 3]),
+        // then 20, also without room; then 10. Each list here is asked in rooms that are too small.
+        ask(&[3, 5, 0, 14, 5, 0]),
+        ask(&[3, 5, 0, 6, -1, 0]),
+    ]
+}
+
+/// A list in every room that is named.
+fn ask(list: &[i64]) -> Question {
+    Question {
+        list: list.to_vec(),
+        low: 0,
+        high: LARGEST_NAMED_ROOM,
+    }
+}
