@@ -182,7 +182,7 @@ pub data Carried (op : ℕ) (first second : ℤ) : Type 0 where
   two : isSigned op ≡ false → op ≡ 12 → first ≡ pos (natAbs first) → natAbs first ≤ 536870911 → second ≡ pos (natAbs second) → natAbs second ≤ 536870911 → Carried op first second
   plain : isSigned op ≡ false → (op ≡ 11 → ⊥) → (op ≡ 12 → ⊥) → first ≡ pos (natAbs first) → natAbs first ≤ 536870911 → second ≡ pos 0 → Carried op first second
 
-is-signed : (op : ℕ) → isSigned op ≡ true → (op ≡ 6) ⊎ (op ≡ 10)
+pub is-signed : (op : ℕ) → isSigned op ≡ true → (op ≡ 6) ⊎ (op ≡ 10)
 is-signed op = go (eqb op 6) refl
   where
     go : (b : Bool) → eqb op 6 ≡ b → cond b true (eqb op 10) ≡ true → (op ≡ 6) ⊎ (op ≡ 10)

@@ -6,7 +6,7 @@ use Prim.Native.Nat.{ℕ, zero, suc, _+_, _-_, _*_, _%_, _^_, _≤_, _<_}
 use native.Mathlib.Omega.{arith}
 use native.Mathlib.Nat.{add-zero, add-suc}
 use native.Mathlib.Numerals.{add-one}
-use borrow.Author.Tests.{eq-eqb, ne-eqb, le-leb, lt-leb}
+use borrow.Author.Tests.{eq-eqb, ne-eqb, eqb-true, le-leb, lt-leb}
 use lib.Dec.{eqb}
 use lib.ListN.{length, length-append}
 use lib.Seq.{sets, length-sets}
@@ -17,7 +17,7 @@ use Rattle.outcome.specs.Outcome.{Outcome, ok, refused, _>>=_, _>>_, require}
 use Rattle.outcome.specs.Refusal as paper
 use Rattle.outcome.specs.Each.{each}
 use Rattle.outcome.specs.Store.{written}
-use Rattle.outcome.proofs.OutcomeLaws.{came, ok-is}
+use Rattle.outcome.proofs.OutcomeLaws.{came, ok-is, passed}
 use Rattle.outcome.proofs.EachLaws.{each-none, each-more, each-stops, each-passed}
 use Rattle.store.specs.Putting.{Putting}
 use Rattle.store.proofs.PutLaws.{put-length, puts-more}
@@ -171,6 +171,23 @@ module _ {list : List ℤ} {out₀ : List ℕ} (room : length (listBytes list) �
 
 pub ruleset write-cases = (write-none, write-good, write-room, write-more, write-end)
 
+-- ---- a list that is measured is whole, and each of its records can be written
+pub record Measured (list : List ℤ) (n : ℕ) : Type 0 where
+  pub whole : length list % entriesEach ≡ 0
+  pub all : AllWritable list
+  pub is : n ≡ length (listBytes list)
+
+pub measured : (list : List ℤ) {n : ℕ} → measuring list ≡ ok n → Measured list n
+unfolding measuring
+measured list e =
+    came (require (eqb (length list % entriesEach) 0) (refusalIn RaggedList)) _ e λ _ first rest.
+    came (passes list (count list)) _ rest λ _ each-fine last.
+    record {
+      whole = eqb-true (length list % entriesEach) 0 (passed _ _ first);
+      all = record { each = each-passed _ _ (count list) each-fine };
+      is = sym (ok-is last);
+    }
+
 -- ---- the returns of `write_annotations`
 module _ {list : List ℤ} {r : Written} (m : Measuring list r) (out : List ℕ) where
   pub not-measured : {why : Refusal} → r ≡ Refused why → Writing list out r out
@@ -185,20 +202,7 @@ module _ {list : List ℤ} {r : Written} (m : Measuring list r) (out : List ℕ)
     measures = sym (m .answer) ∙ ap writtenIn e
 
     pub measured-all : AllWritable list
-    unfolding measuring
-    measured-all =
-        came (require (eqb (length list % entriesEach) 0) (refusalIn RaggedList)) _ measures λ _ _ rest.
-        came (passes list (count list)) _ rest λ _ passed _.
-        record { each = each-passed _ _ (count list) (passed ∙ ok-unit _) }
-      where
-        ok-unit : (u : Unit {0}) → _≡_ {A = Outcome paper.Refusal (Unit {0})} (ok u) (ok tt)
-        ok-unit u = refl
-
-    measured-is : n ≡ length (listBytes list)
-    unfolding measuring
-    measured-is =
-        came (require (eqb (length list % entriesEach) 0) (refusalIn RaggedList)) _ measures λ _ _ rest.
-        came (passes list (count list)) _ rest λ _ _ last. sym (ok-is last)
+    measured-all = measured list measures .all
 
     pub no-room : length out < n → Writing list out (Refused (NoRoom n)) out
     unfolding writtenIn writing written require _>>=_ _>>_
@@ -206,7 +210,7 @@ module _ {list : List ℤ} {r : Written} (m : Measuring list r) (out : List ℕ)
 
     module _ (l : n ≤ length out) where
       pub listed-room : length (listBytes list) ≤ length out
-      listed-room = rw (← measured-is) l
+      listed-room = rw (← measured list measures .is) l
 
       pub all-written : {out′ : List ℕ} → out′ ≡ sets out 0 (listBytes list) → Writing list out (Length n) out′
       unfolding writtenIn writing written require _>>=_ _>>_

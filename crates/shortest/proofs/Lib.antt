@@ -1,1 +1,2 @@
 pub mod ShortLaws
+pub mod ReadLaws

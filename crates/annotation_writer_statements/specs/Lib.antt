@@ -1,0 +1,3 @@
+pub mod Statements
+pub mod Exactly
+pub mod Cases
