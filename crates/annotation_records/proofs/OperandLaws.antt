@@ -75,7 +75,7 @@ module _ {op : ℕ} {first second : ℤ} where
   first-small (two h n e l f m) = l
   first-small (plain h n k e l z) = l
 
-  second-small : Carried op first second → natAbs second ≤ 536870911
+  pub second-small : Carried op first second → natAbs second ≤ 536870911
   second-small (signed h n l z) = rw z (omega arith)
   second-small (packed h n e l m) = omega arith
   second-small (two h n e l f m) = m
@@ -144,13 +144,13 @@ pub ruleset first-cases =
 
 -- ---- `numbers_of`
 module _ {op : ℕ} {first second : ℤ} where
-  first-form : Carried op first second → firstOperand op first second < 2 ^ 29
+  pub first-form : Carried op first second → firstOperand op first second < 2 ^ 29
   first-form (signed h n l z) = rw h (omega (arith, operand-most first))
   first-form (packed h n e l m) = rw (h, eq-eqb op 11 n) (omega (arith, operand-most second))
   first-form (two h n e l f m) = rw (h, ne-eqb op 11 (λ k. omega arith)) (omega arith)
   first-form (plain h n k e l z) = rw (h, ne-eqb op 11 n) (omega arith)
 
-  numbers-are : Carried op first second → numbersIn (record { opcode = op; first = firstOperand op first second; second = natAbs second }) ≡ op ∷ operandsOf (triple op first second)
+  pub numbers-are : Carried op first second → numbersIn (record { opcode = op; first = firstOperand op first second; second = natAbs second }) ≡ op ∷ operandsOf (triple op first second)
   unfolding operandsOf
   numbers-are (signed h n l z) = rw (h, ne-eqb op 12 n)
   numbers-are (packed h n e l m) = rw (h, eq-eqb op 11 n, ne-eqb op 12 (λ k. omega arith))

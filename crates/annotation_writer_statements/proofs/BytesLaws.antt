@@ -17,7 +17,7 @@ use Rattle.annotations.proofs.ShiftLaws.{laterStep, step-later}
 use Rattle.annotation_writer_statements.specs.Statements.{MoreBytes, FromAPlace}
 
 -- an annotation is no end
-not-an-end : {x : PlacedTriple} {p : ℕ} → _≡_ {A = Outcome Stop Stepped} (ok (annotation x)) (ok (end p)) → ⊥
+pub not-an-end : {x : PlacedTriple} {p : ℕ} → _≡_ {A = Outcome Stop Stepped} (ok (annotation x)) (ok (end p)) → ⊥
 not-an-end e = let z : _≡_ {A = ℕ} 0 1 = cc in omega arith
 
 -- an end has the length for its place
@@ -33,6 +33,7 @@ end-place s at {p} =
   where
     P : Outcome Stop Stepped → Type 0
     P o = o ≡ ok (end p) → p ≡ length s
+
     here : _≡_ {A = Outcome Stop Stepped} (ok (end (length s))) (ok (end p)) → p ≡ length s
     here e = cc
 

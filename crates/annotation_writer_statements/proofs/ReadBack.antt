@@ -60,7 +60,7 @@ module _ (op v : ℕ) (some : 1 ≤ op) (known : op ≤ 13) (small : v < 2 ^ 29)
       let b = short op ++ (short v ++ (short w ++ [])) in
       let place : length (short op) + length (short v) + length (short w) ≡ length b = rw (length-append, length-append, length-append) (omega arith) in
       let second : numberAt b (length (short op) + length (short v)) ≡ ok (record { value = w; next = length (short op) + length (short v) + length (short w) }) =
-          rw (append-assoc, length-append) at (short-reads-in (short op ++ short v) [] w l) in
+      rw (append-assoc, length-append) at (short-reads-in (short op ++ short v) [] w l) in
       opcode-read (short v ++ (short w ++ [])) ∙ two-operands b op (length (short op)) (operand-read (short w ++ [])) t second ∙ rw place
 
 -- ---- a record
@@ -70,7 +70,7 @@ module _ {op : ℕ} {first second : ℤ} (some : 1 ≤ op) (known : op ≤ 13) w
   carried-reads (signed h n l z) =
       let small : operandOf first < 2 ^ 29 = omega (arith, operand-most first) in
       let back : annotationOf op (operandOf first) 0 ≡ triple op first second =
-          ⊎-elim (λ (e : op ≡ 6). rw (eq-eqb op 6 e, signed-back, z)) (λ (e : op ≡ 10). rw (ne-eqb op 6 (λ k. omega arith), eq-eqb op 10 e, signed-back, z)) (is-signed op h) in
+      ⊎-elim (λ (e : op ≡ 6). rw (eq-eqb op 6 e, signed-back, z)) (λ (e : op ≡ 10). rw (ne-eqb op 6 (λ k. omega arith), eq-eqb op 10 e, signed-back, z)) (is-signed op h) in
       rw h (step-one op (operandOf first) some known small n ∙ rw back)
   carried-reads (packed h n e l m) =
       let bound = operand-most second in
@@ -78,15 +78,15 @@ module _ {op : ℕ} {first second : ℤ} (some : 1 ≤ op) (known : op ≤ 13) w
       let low : v % 16 ≡ natAbs first = omega arith in
       let high : v / 16 ≡ operandOf second = omega arith in
       let back : annotationOf op v 0 ≡ triple op first second =
-          rw (ne-eqb op 6 (λ k. omega arith), ne-eqb op 10 (λ k. omega arith), eq-eqb op 11 n, low, high, signed-back, ← e) in
+      rw (ne-eqb op 6 (λ k. omega arith), ne-eqb op 10 (λ k. omega arith), eq-eqb op 11 n, low, high, signed-back, ← e) in
       rw (h, eq-eqb op 11 n) (step-one op v some known (omega arith) (λ k. omega arith) ∙ rw back)
   carried-reads (two h n e l f m) =
       let back : annotationOf op (natAbs first) (natAbs second) ≡ triple op first second =
-          rw (ne-eqb op 6 (λ k. omega arith), ne-eqb op 10 (λ k. omega arith), ne-eqb op 11 (λ k. omega arith), eq-eqb op 12 n, ← e, ← f) in
+      rw (ne-eqb op 6 (λ k. omega arith), ne-eqb op 10 (λ k. omega arith), ne-eqb op 11 (λ k. omega arith), eq-eqb op 12 n, ← e, ← f) in
       rw (h, ne-eqb op 11 (λ k. omega arith), eq-eqb op 12 n) (step-two op (natAbs first) some known (omega arith) (natAbs second) (omega arith) n ∙ rw back)
   carried-reads (plain h n k e l z) =
       let back : annotationOf op (natAbs first) 0 ≡ triple op first second =
-          rw (ne-eqb op 6 (λ t. true≢false (ap isSigned (sym t) ∙ h)), ne-eqb op 10 (λ t. true≢false (ap isSigned (sym t) ∙ h)), ne-eqb op 11 n, ne-eqb op 12 k, ← e, z) in
+      rw (ne-eqb op 6 (λ t. true≢false (ap isSigned (sym t) ∙ h)), ne-eqb op 10 (λ t. true≢false (ap isSigned (sym t) ∙ h)), ne-eqb op 11 n, ne-eqb op 12 k, ← e, z) in
       rw (h, ne-eqb op 11 n, ne-eqb op 12 k) (step-one op (natAbs first) some known (omega arith) k ∙ rw back)
 
 pub record-reads : (r : Record) → Writable r → stepAt (annotationBytes (annotationIn r)) 0 ≡ ok (annotation (record { triple = annotationIn r; next = length (annotationBytes (annotationIn r)) }))
@@ -119,7 +119,7 @@ steps u (t ∷ later) (more e p) =
     let b = annotationBytes t in
     let first : stepAt (b ++ bytesOf later) 0 ≡ ok (annotation (record { triple = t; next = length b })) = more-bytes .found b (bytesOf later) 0 e in
     let here : stepAt (u ++ (b ++ bytesOf later)) (length u) ≡ ok (annotation (record { triple = t; next = length u + length b })) =
-        rw (add-zero (length u)) at (from-a-place .found u (b ++ bytesOf later) 0 first) in
+    rw (add-zero (length u)) at (from-a-place .found u (b ++ bytesOf later) 0 first) in
     StepsTo.more here (rw (append-assoc, length-append u b) at (steps (u ++ b) later p))
 
 -- the run of decoding them all

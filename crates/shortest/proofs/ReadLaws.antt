@@ -90,13 +90,16 @@ number-least s at bytes {x} =
   where
     read : (y : Number) → at + length (short (y .value)) ≤ y .next → _≡_ {A = Outcome Stop Number} (ok y) (ok x) → at + length (short (x .value)) ≤ x .next
     read y h e = let f : y ≡ x = ok-is e in rw (← f) h
+
     none : {why : Stop} → _≡_ {A = Outcome Stop Number} (refused why) (ok x) → at + length (short (x .value)) ≤ x .next
     none e = absurd (ok-refused (sym e))
+
     two : (h : ℕ) → h < 64 → at + length (short (h * 256 + getD s (at + 1) 0)) ≤ at + 2
     two h l =
         let b = bytes (at + 1) in
         let small : h * 256 + getD s (at + 1) 0 ≤ 0x3fff = omega arith in
         omega (arith, short-rises small, width-two 0x3fff (omega arith) (omega arith))
+
     four : (n : ℕ) → at + length (short n) ≤ at + 4
     four n = omega (arith, short-most n)
 
@@ -105,9 +108,9 @@ pub data AllBytes : List ℕ → Type 0 where
   none : AllBytes []
   more : {b : ℕ} {l : List ℕ} → b < 256 → AllBytes l → AllBytes (b ∷ l)
 
-pub bytes-append : {a b : List ℕ} → AllBytes a → AllBytes b → AllBytes (a ++ b)
-bytes-append none q = q
-bytes-append (more h p) q = more h (bytes-append p q)
+pub all-append : {a b : List ℕ} → AllBytes a → AllBytes b → AllBytes (a ++ b)
+all-append none q = q
+all-append (more h p) q = more h (all-append p q)
 
 pub bytes-at : {l : List ℕ} → AllBytes l → (i : ℕ) → getD l i 0 < 256
 bytes-at none i = omega arith
