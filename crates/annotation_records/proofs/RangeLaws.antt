@@ -23,20 +23,16 @@ abbrev pub kept : ℤ → ℤ
 kept z = toZ w64 (ofZ w64 z)
 
 -- ---- what a range says of a number in it
-pub from-one : (z : ℤ) {m : ℕ} → within (pos 1 to pos m) z ≡ true → (1 ≤ natAbs z) × ((z ≡ pos (natAbs z)) × (natAbs z ≤ m))
-from-one z {m} e = go z (and-true (leZ (pos 1) z) (leZ z (pos m)) e)
+pub from : (l : ℕ) (z : ℤ) {m : ℕ} → within (pos l to pos m) z ≡ true → (l ≤ natAbs z) × ((z ≡ pos (natAbs z)) × (natAbs z ≤ m))
+from l z {m} e = go z (and-true (leZ (pos l) z) (leZ z (pos m)) e)
   where
-    go : (y : ℤ) → (leZ (pos 1) y ≡ true) × (leZ y (pos m) ≡ true) → (1 ≤ natAbs y) × ((y ≡ pos (natAbs y)) × (natAbs y ≤ m))
-    go (pos n) f = (leb-true 1 n (f .0), (refl, leb-true n m (f .1)))
+    go : (y : ℤ) → (leZ (pos l) y ≡ true) × (leZ y (pos m) ≡ true) → (l ≤ natAbs y) × ((y ≡ pos (natAbs y)) × (natAbs y ≤ m))
+    go (pos n) f = (leb-true l n (f .0), (refl, leb-true n m (f .1)))
     go (negsuc n) f = absurd (true≢false (sym (f .0)))
 
 module _ (m : ℕ) (z : ℤ) where
   pub natural : within (pos 0 to pos m) z ≡ true → (z ≡ pos (natAbs z)) × (natAbs z ≤ m)
-  natural e = go z (and-true (leZ (pos 0) z) (leZ z (pos m)) e)
-    where
-      go : (y : ℤ) → (leZ (pos 0) y ≡ true) × (leZ y (pos m) ≡ true) → (y ≡ pos (natAbs y)) × (natAbs y ≤ m)
-      go (pos n) f = (refl, leb-true n m (f .1))
-      go (negsuc n) f = absurd (true≢false (sym (f .0)))
+  natural e = from 0 z e .1
 
   pub either-sign : within (negℤ (pos m) to pos m) z ≡ true → natAbs z ≤ m
   either-sign e = go m z (and-true (leZ (negℤ (pos m)) z) (leZ z (pos m)) e)
@@ -160,10 +156,10 @@ module _ (op : ℕ) (first second : ℤ) (m : mag first < 2 ^ 63) {a : Range} (i
   unfolding carries
   first-outside e = rw (← handed first i (first-small op) m h, e)
 
-module _ (r : Record) (m : mag (r .opcode) < 2 ^ 63) {t : Bool} (h : t ≡ within (pos 1 to pos 13) (kept (r .opcode))) where
-  pub opcode-small : t ≡ true → natAbs (kept (r .opcode)) ≤ 536870911
-  opcode-small e = let n = from-one (kept (r .opcode)) (sym h ∙ e) in omega arith
+pub opcode-small : (low high : ℕ) (z : ℤ) {t : Bool} → t ≡ within (pos low to pos high) z → t ≡ true → high ≤ 536870911 → natAbs z ≤ 536870911
+opcode-small low high z h e l = let n = from low z (sym h ∙ e) in omega (arith, n .1 .1)
 
+module _ (r : Record) (m : mag (r .opcode) < 2 ^ 63) {t : Bool} (h : t ≡ within (pos 1 to pos 13) (kept (r .opcode))) where
   pub opcode-known : t ≡ true → mag (r .first) < 2 ^ 63 → mag (r .second) < 2 ^ 63 → {op : ℕ} → op ≡ natAbs (kept (r .opcode)) → {u : Bool} → u ≡ carries op (kept (r .first)) (kept (r .second)) → u ≡ writable r
   unfolding writable
   opcode-known e m₁ m₂ o k =
@@ -173,7 +169,7 @@ module _ (r : Record) (m : mag (r .opcode) < 2 ^ 63) {t : Bool} (h : t ≡ withi
   unfolding writable
   opcode-outside e = rw (← rw (stored {z = r .opcode} m) at h, e)
 
-pub ruleset writable-cases = (first-within, first-outside, opcode-small, opcode-known, opcode-outside)
+pub ruleset writable-cases = (first-within, first-outside, opcode-known, opcode-outside)
 
 -- ---- the four kinds of numbers that an opcode can carry
 pub data Carried (op : ℕ) (first second : ℤ) : Type 0 where
@@ -234,5 +230,5 @@ writable-carries r e = and-true (within (pos 1 to pos 13) (r .opcode)) _ e .1
 pub can-be-written : (r : Record) → writable r ≡ true → Writable r
 unfolding writable
 can-be-written r e =
-    let o = from-one (r .opcode) (and-true (within (pos 1 to pos 13) (r .opcode)) _ e .0) in
+    let o = from 1 (r .opcode) (and-true (within (pos 1 to pos 13) (r .opcode)) _ e .0) in
     record { some = o .0; known = o .1 .1; opcode = o .1 .0; carries = carried _ _ _ (writable-carries r e) }

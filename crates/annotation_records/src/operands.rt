@@ -40,12 +40,12 @@ impl Numbers {
         ensures { λ r. ⌜ Putting (shorts (numbersIn self)) (now (out .entry)) at (now (out .exit)) r ⌝ }
     {
         let opcode = self.opcode;
-        let first = put_short(out, at, opcode);
-        let second = put_short(out, first, self.first);
+        let operand = put_short(out, at, opcode);
+        let after = put_short(out, operand, self.first);
         if opcode == 12 {
-            return put_short(out, second, self.second);
+            return put_short(out, after, self.second);
         }
-        second
+        after
     }
 }
 

@@ -14,8 +14,6 @@ use lib.IntN.{ℤ}
 use mir.Syntax.{w64}
 use mir.Val.{Fits}
 use Rattle.outcome.specs.Outcome.{Outcome, ok, refused, _>>=_, _>>_, require}
-use Rattle.outcome.specs.Refusal as paper
-use Rattle.outcome.specs.Each.{each}
 use Rattle.outcome.specs.Store.{written}
 use Rattle.outcome.proofs.OutcomeLaws.{came, ok-is, passed}
 use Rattle.outcome.proofs.EachLaws.{each-none, each-more, each-stops, each-passed}
@@ -30,7 +28,7 @@ use Rattle.annotation_records.proofs.OperandLaws.{numbers-few, annotation-some}
 use Rattle.annotation_records.specs.declared.record.Record.{Record}
 use Rattle.annotation_records.specs.declared.operands.Numbers.{Numbers}
 use Rattle.annotation_writer.specs.Refusal.{refusalIn}
-use Rattle.annotation_writer.specs.Writing.{annotationsIn, bytesOf, listBytes, measuring, writing}
+use Rattle.annotation_writer.specs.Writing.{annotationsIn, bytesOf, listBytes, judging, measuring, writing}
 use Rattle.annotation_writer.specs.Promises.{writtenIn, Writing}
 use Rattle.annotation_writer.specs.Inner.{Width, Measuring, AllWritable}
 use Rattle.annotation_writer.specs.declared.refusal.Refusal.{Refusal}
@@ -62,16 +60,13 @@ module _ {q r : Record} (e : r ≡ q) {t : Bool} (i : t ≡ writable r) where
 
 pub ruleset width-cases = (width-good, width-bad, good-record)
 
--- ---- `measure`: the first k records can be written, and take `needed` bytes
-abbrev passes : List ℤ → ℕ → Outcome paper.Refusal (Unit {0})
-passes list k = each (λ j. writable (recordAt list j)) (λ j. refusalIn (BadRecord j)) k
-
-pub record Measured-so-far (list : List ℤ) (k needed : ℕ) : Type 0 where
+-- ---- `measure`: the first k records can be written, and take `total` bytes
+pub record Measured-so-far (list : List ℤ) (k total : ℕ) : Type 0 where
   pub whole : length list % entriesEach ≡ 0
   pub within : k ≤ count list
-  pub passed : passes list k ≡ ok tt
-  pub sum : needed ≡ length (bytesOf (annotationsIn list k))
-  pub few : needed ≤ 12 * k
+  pub passed : judging list k ≡ ok tt
+  pub sum : total ≡ length (bytesOf (annotationsIn list k))
+  pub few : total ≤ 12 * k
 
 pub measure-ragged : (list : List ℤ) → (length list % entriesEach ≡ 0 → ⊥) → Measuring list (Refused RaggedList)
 unfolding writtenIn measuring require _>>_
@@ -82,10 +77,10 @@ unfolding annotationsIn bytesOf
 measure-none list h =
     record { whole = h; within = omega arith; passed = each-none _ _; sum = refl; few = omega arith }
 
-module _ {list : List ℤ} {k needed : ℕ} (m : Measured-so-far list k needed) where
+module _ {list : List ℤ} {k total : ℕ} (m : Measured-so-far list k total) where
   module _ (l : k < count list) {width : ℕ} (w : Width (recordAt list k) width) where
-    -- the bytes needed fit, since the entries do, which are larger
-    pub measure-fits : length list * 8 < 2 ^ 63 → Fits w64 (needed + width)
+    -- the bytes fit, since the entries do, which are larger
+    pub measure-fits : length list * 8 < 2 ^ 63 → Fits w64 (total + width)
     measure-fits h = record { fits = omega (arith, m .few, w .small) }
 
     is-bad : width ≡ 0 → writable (recordAt list k) ≡ false
@@ -107,7 +102,7 @@ module _ {list : List ℤ} {k needed : ℕ} (m : Measured-so-far list k needed) 
     measure-bad z =
         record { answer = rw (eq-eqb (length list % entriesEach) 0 (m .whole), each-stops _ _ (m .passed) (is-bad z) (count list) l) }
 
-    pub measure-more : (width ≡ 0 → ⊥) → Measured-so-far list (k + 1) (needed + width)
+    pub measure-more : (width ≡ 0 → ⊥) → Measured-so-far list (k + 1) (total + width)
     measure-more z =
         record {
           whole = m .whole;
@@ -117,7 +112,7 @@ module _ {list : List ℤ} {k needed : ℕ} (m : Measured-so-far list k needed) 
           few = omega (arith, m .few, w .small);
         }
 
-  pub measure-end : count list ≤ k → Measuring list (Length needed)
+  pub measure-end : count list ≤ k → Measuring list (Length total)
   unfolding writtenIn measuring require _>>_
   measure-end l =
       let same : k ≡ count list = omega (arith, m .within) in
@@ -181,7 +176,7 @@ pub measured : (list : List ℤ) {n : ℕ} → measuring list ≡ ok n → Measu
 unfolding measuring
 measured list e =
     came (require (eqb (length list % entriesEach) 0) (refusalIn RaggedList)) _ e λ _ first rest.
-    came (passes list (count list)) _ rest λ _ each-fine last.
+    came (judging list (count list)) _ rest λ _ each-fine last.
     record {
       whole = eqb-true (length list % entriesEach) 0 (passed _ _ first);
       all = record { each = each-passed _ _ (count list) each-fine };

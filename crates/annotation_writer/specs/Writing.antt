@@ -27,11 +27,15 @@ bytesOf (t ∷ later) = annotationBytes t ++ bytesOf later
 abbrev pub listBytes : List ℤ → List ℕ
 listBytes list = bytesOf (annotationsIn list (count list))
 
+-- the first n records can be written, or the first bad one is refused, by its index from 0
+abbrev pub judging : List ℤ → ℕ → Outcome paper.Refusal (Unit {0})
+judging list = each (λ k. writable (recordAt list k)) (λ k. refusalIn (BadRecord k))
+
 -- how many bytes a list takes: "21 first, then the first bad record"
 unfoldable pub measuring : List ℤ → Outcome paper.Refusal ℕ
 measuring list = do
   require (eqb (length list % entriesEach) 0) (refusalIn RaggedList)
-  each (λ k. writable (recordAt list k)) (λ k. refusalIn (BadRecord k)) (count list)
+  judging list (count list)
   ok (length (listBytes list))
 
 -- how many bytes are written to a store of `room` bytes: "then 10"

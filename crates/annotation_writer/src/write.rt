@@ -43,17 +43,17 @@ fn measure(records: &[i64]) -> Written
         return Written::Refused(Refusal::RaggedList);
     }
     let n = records.len() / ENTRIES_EACH;
-    let mut needed: usize = 0;
+    let mut total: usize = 0;
     let mut k: usize = 0;
     while k < n {
         let width = width_at(records, k);
         if width == 0 {
             return Written::Refused(Refusal::BadRecord(k));
         }
-        needed += width;
+        total += width;
         k += 1;
     }
-    Written::Length(needed)
+    Written::Length(total)
 }
 
 // How many bytes record k takes. 0 if it is bad: a good one has an opcode.

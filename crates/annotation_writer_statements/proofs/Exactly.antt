@@ -11,7 +11,6 @@ use lib.ListN.{length}
 use lib.IntN.{ℤ, pos, negℤ}
 use lib.Signed.{leZ, _≤ℤ_}
 use Rattle.outcome.specs.Outcome.{Outcome, ok, refused, _>>=_, _>>_, require}
-use Rattle.outcome.specs.Each.{each}
 use Rattle.outcome.specs.Refusal as paper
 use Rattle.outcome.proofs.OutcomeLaws.{and-true, below-or, ok-is, ok-refused, refused-is}
 use Rattle.outcome.proofs.EachLaws.{each-decides, each-stops, each-passed}
@@ -20,7 +19,7 @@ use Rattle.annotation_records.specs.Ranges.{_to_, within, isSigned, firstRange,
 use Rattle.annotation_records.specs.declared.record.Record.{Record}
 use Rattle.annotation_records.proofs.RangeLaws.{is-zero}
 use Rattle.annotation_writer.specs.Refusal.{refusalIn}
-use Rattle.annotation_writer.specs.Writing.{listBytes, measuring, writing}
+use Rattle.annotation_writer.specs.Writing.{listBytes, judging, measuring, writing}
 use Rattle.annotation_writer.specs.declared.refusal.Refusal.the-variants.{BadRecord, RaggedList, NoRoom}
 use Rattle.annotation_writer_statements.specs.Exactly.{Between, Fine, Plain, CarriesExactly, FineTo, FirstBad, RefusedExactly}
 
@@ -140,10 +139,10 @@ module _ (list : List ℤ) (room : ℕ) where
       by-length true e =
           let whole = eqb-true (length list % entriesEach) 0 e in
           ⊎-elim
-          (λ (p : each _ _ (count list) ≡ ok tt). rw (e, p) (by-room (leb (length (listBytes list)) room) refl (record { whole = whole; each = each-passed _ _ (count list) p })))
-          (λ (p : (k : ℕ) × ((k < count list) × ((each _ _ k ≡ ok tt) × (writable (recordAt list k) ≡ false)))).
+          (λ (p : judging list (count list) ≡ ok tt). rw (e, p) (by-room (leb (length (listBytes list)) room) refl (record { whole = whole; each = each-passed _ _ (count list) p })))
+          (λ (p : (k : ℕ) × ((k < count list) × ((judging list k ≡ ok tt) × (writable (recordAt list k) ≡ false)))).
           let stops = each-stops _ _ (p .1 .1 .0) (p .1 .1 .1) (count list) (p .1 .0) in
-          rw (e, stops) (bad (record { before = record { whole = whole; each = each-passed _ _ (p .0) (p .1 .1 .0) }; there = p .1 .0; bad = p .1 .1 .1 })))
+          rw (e, stops) (bad (record { before = record { whole = whole; each = each-passed _ _ (p .0) (p .1 .1 .0) }; there = let l = p .1 .0 in omega arith; bad = p .1 .1 .1 })))
           (each-decides (λ k. writable (recordAt list k)) (λ k. refusalIn (BadRecord k)) (count list))
 
 -- refusals that are equal have one number and one value

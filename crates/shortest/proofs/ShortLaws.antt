@@ -48,8 +48,6 @@ short-most n =
     let P : List ℕ → Type 0 = λ l. length l ≤ 4 in
     by-test P (ltb n 0x80) (λ _. omega arith) (λ _. by-test P (ltb n 0x4000) (λ _. omega arith) (λ _. omega arith))
 
-pub ruleset width-cases = (width-one, width-two, width-four)
-
 -- ---- `put_short`: its room is that of its form
 module _ (n at len : ℕ) (room : at + length (short n) ≤ len) where
   pub room-one : n < 0x80 → at < len
@@ -76,4 +74,4 @@ module _ (out : List ℕ) (at n : ℕ) where
   put-four h room =
       let e : at + 3 ≡ suc (suc (suc at)) = omega arith in rw (add-one, add-two, e) (put (short-four n h) room)
 
-pub ruleset put-cases = (room-one, room-two, room-four, put-one, put-two, put-four)
+pub ruleset put-cases = (put-two, put-four)

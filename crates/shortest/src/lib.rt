@@ -5,14 +5,19 @@ ghost use lib.ListN.{length};
 ghost use Rattle.store.specs.Putting.{Putting};
 ghost use Rattle.shortest.specs.Short.{short};
 
+// The first numbers that take two bytes and four.
+const TWO_BYTES: u32 = 0x80;
+
+const FOUR_BYTES: u32 = 0x4000;
+
 // How many bytes the shortest form takes.
 pub fn short_width(n: u32) -> usize
     ensures { λ r. ⌜ r ≡ length (short n) ⌝ }
 {
-    if n < 0x80 {
+    if n < TWO_BYTES {
         return 1;
     }
-    if n < 0x4000 {
+    if n < FOUR_BYTES {
         return 2;
     }
     4
@@ -25,11 +30,11 @@ pub fn put_short(out: &mut [u8], at: usize, n: u32) -> usize
     requires { ⌜ at + length (short n) ≤ length (now out) ⌝ }
     ensures { λ r. ⌜ Putting (short n) (now (out .entry)) at (now (out .exit)) r ⌝ }
 {
-    if n < 0x80 {
+    if n < TWO_BYTES {
         out[at] = n as u8;
         return at + 1;
     }
-    if n < 0x4000 {
+    if n < FOUR_BYTES {
         return put_two(out, at, n);
     }
     put_four(out, at, n)

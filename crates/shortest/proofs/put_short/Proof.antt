@@ -1,7 +1,8 @@
 -- The tests are those of `short`, so the room for its form is the room for one, two or four bytes.
 -- Assumes a number that has a form, and room for it.
+use native.Mathlib.Omega.{arith}
 use borrow.Author.Needs.{needs}
-use Rattle.shortest.proofs.ShortLaws.{put-cases}
+use Rattle.shortest.proofs.ShortLaws.{room-one, room-two, room-four, put-one}
 use Rattle.shortest.proofs.put_short.Statement.{statement}
 use Rattle.shortest.proofs.put_short.Tie as tie
 
@@ -9,7 +10,7 @@ cast-out : tie.Need-cast-out
 cast-out c = search needs
 
 slice-write-out : tie.Need-slice-write-out
-slice-write-out c = search put-cases
+slice-write-out c = room-one _ _ _ (c .before .before .pre .1) (omega arith)
 
 add-result : tie.Need-add-result
 add-result c = search needs
@@ -18,10 +19,12 @@ same-length : tie.Need-same-length
 same-length c = search needs
 
 returns : tie.Need-returns
-returns c = search put-cases
+returns c =
+    put-one _ _ _ (omega arith) (room-one _ _ _ (c .before .before .pre .1) (omega arith))
 
 put-two-requires : tie.Need-put-two-requires
-put-two-requires c κs = search put-cases
+put-two-requires c κs =
+    ((omega arith, omega arith), room-two _ _ _ (c .before .before .before .before .pre .1) (omega arith) (omega arith))
 
 same-length-2 : tie.Need-same-length-2
 same-length-2 c = search needs
@@ -30,7 +33,8 @@ returns-2 : tie.Need-returns-2
 returns-2 c = search needs
 
 put-four-requires : tie.Need-put-four-requires
-put-four-requires c κs = search put-cases
+put-four-requires c κs =
+    ((omega arith, omega arith), room-four _ _ _ (c .before .before .before .before .pre .1) (omega arith))
 
 same-length-3 : tie.Need-same-length-3
 same-length-3 c = search needs

@@ -1,7 +1,8 @@
 -- The opcode is tested first, so that it is small; then what it carries.
 -- Assumes nothing.
 use borrow.Author.Needs.{needs}
-use Rattle.annotation_records.proofs.RangeLaws.{writable-cases}
+use lib.Dec.{lit≤}
+use Rattle.annotation_records.proofs.RangeLaws.{opcode-small, writable-cases}
 use Rattle.annotation_records.proofs.range.is_writable.Statement.{statement}
 use Rattle.annotation_records.proofs.range.is_writable.Tie as tie
 
@@ -9,7 +10,7 @@ is-within-requires : tie.Need-is-within-requires
 is-within-requires c κs = search needs
 
 magnitude-requires : tie.Need-magnitude-requires
-magnitude-requires c κs = search writable-cases
+magnitude-requires c κs = search (opcode-small, lit≤)
 
 can-carry-requires : tie.Need-can-carry-requires
 can-carry-requires c κs = search needs

@@ -1,4 +1,4 @@
--- The invariant: the first k records can be written, and take `needed` bytes. The measure is the number of records left.
+-- The invariant: the first k records can be written, and take `total` bytes. The measure is the number of records left.
 -- Assumes nothing.
 use Prim.Native.Nat.{_-_}
 use borrow.Author.Needs.{needs}
@@ -7,10 +7,10 @@ use Rattle.annotation_writer.proofs.write.measure.Statement.{statement}
 use Rattle.annotation_writer.proofs.write.measure.Tie as tie
 
 abbrev Inv-loop : tie.InvT-loop
-Inv-loop records n needed₀ k₀ needed k = Measured-so-far records k needed
+Inv-loop records n total₀ k₀ total k = Measured-so-far records k total
 
 abbrev μ-loop : tie.MeasureT-loop
-μ-loop records n needed₀ k₀ needed k = n - k
+μ-loop records n total₀ k₀ total k = n - k
 
 returns : tie.Need-returns Inv-loop μ-loop
 returns c = search measure-cases
@@ -24,8 +24,8 @@ width-at-requires c κs = search needs
 returns-2 : tie.Need-returns-2 Inv-loop μ-loop
 returns-2 c = search measure-cases
 
-add-needed : tie.Need-add-needed Inv-loop μ-loop
-add-needed c = search measure-fits
+add-total : tie.Need-add-total Inv-loop μ-loop
+add-total c = search measure-fits
 
 add-k : tie.Need-add-k Inv-loop μ-loop
 add-k c = search needs
@@ -49,7 +49,7 @@ measure-spec =
     loop-holds
     width-at-requires
     returns-2
-    add-needed
+    add-total
     add-k
     loop-less
     loop-again
