@@ -78,18 +78,16 @@ record PlainOpcode (op : ℕ) : Type 0 where
   twelve : op ≡ 12 → ⊥
 
 plain-opcode : (op : ℕ) → Plain op → PlainOpcode op
-plain-opcode op =
-    ⊎-elim (λ (p : (1 ≤ op) × (op ≤ 5)). low p)
-    (⊎-elim (λ (p : (7 ≤ op) × (op ≤ 9)). middle p) (λ (e : op ≡ 13). last e))
-  where
-    low : (1 ≤ op) × (op ≤ 5) → PlainOpcode op
-    low p = record { some = p .0; known = omega (arith, p .1); six = λ e. omega (arith, p .1); ten = λ e. omega (arith, p .1); eleven = λ e. omega (arith, p .1); twelve = λ e. omega (arith, p .1) }
-
-    middle : (7 ≤ op) × (op ≤ 9) → PlainOpcode op
-    middle p = record { some = omega (arith, p .0); known = omega (arith, p .1); six = λ e. omega (arith, p .0); ten = λ e. omega (arith, p .1); eleven = λ e. omega (arith, p .1); twelve = λ e. omega (arith, p .1) }
-
-    last : op ≡ 13 → PlainOpcode op
-    last e = record { some = omega arith; known = omega arith; six = λ f. omega arith; ten = λ f. omega arith; eleven = λ f. omega arith; twelve = λ f. omega arith }
+plain-opcode op (inl p) =
+    let l = p .0 in
+    let h = p .1 in
+    record { some = omega arith; known = omega arith; six = λ e. omega arith; ten = λ e. omega arith; eleven = λ e. omega arith; twelve = λ e. omega arith }
+plain-opcode op (inr (inl p)) =
+    let l = p .0 in
+    let h = p .1 in
+    record { some = omega arith; known = omega arith; six = λ e. omega arith; ten = λ e. omega arith; eleven = λ e. omega arith; twelve = λ e. omega arith }
+plain-opcode op (inr (inr t)) =
+    record { some = omega arith; known = omega arith; six = λ e. omega arith; ten = λ e. omega arith; eleven = λ e. omega arith; twelve = λ e. omega arith }
 
 carries-plain : (op : ℕ) (first second : ℤ) → Plain op → Fine op first second ↔ (Between (pos 0) (pos 536870911) first × (second ≡ pos 0))
 carries-plain op first second p =

@@ -1,4 +1,5 @@
-//! The rules of request 2026-01, each with the smallest lists that tell it from its neighbour.
+//! The rows of docs/RULES.md on request 2026-01, R71 to R80, each with the smallest lists that tell it from its
+//! neighbour.
 
 use super::list::Question;
 
@@ -11,47 +12,47 @@ pub fn questions() -> Vec<Question> {
 
 fn bytes() -> Vec<Question> {
     let mut questions = vec![
-        // The empty list is accepted, and nothing closes a list.
+        // R71: the empty list is accepted, and nothing closes a list.
         ask(&[]),
         ask(&[3, 5, 0]),
-        // The shortest form of each number.
+        // R72: the shortest form of each number.
         ask(&[3, 127, 0]),
         ask(&[3, 128, 0]),
         ask(&[3, 16_383, 0]),
         ask(&[3, 16_384, 0]),
-        // A signed operand: signed 0 is operand 0.
+        // R73: a signed operand. Signed 0 is operand 0. R80 names the first.
         ask(&[6, 0, 0]),
         ask(&[6, 1, 0]),
         ask(&[6, -1, 0]),
         ask(&[10, -7, 0]),
         ask(&[11, 2, -3]),
         ask(&[11, 0, 0]),
-        // Two operands.
+        // R73: two operands.
         ask(&[12, 3, 7]),
     ];
-    // One operand, or the first of two.
+    // R73: one operand, or the first of two. R74 names the last opcode.
     questions.extend((1..=13).map(|opcode| ask(&[opcode, 5, 0])));
     questions
 }
 
 fn bad_records() -> Vec<Question> {
     vec![
-        // An opcode outside 1 to 13.
+        // R74: an opcode outside 1 to 13.
         ask(&[0, 5, 0]),
         ask(&[14, 5, 0]),
         ask(&[-1, 5, 0]),
-        // A second number that should be 0.
+        // R76: a second number that should be 0.
         ask(&[3, 5, 1]),
         ask(&[6, 5, -1]),
         ask(&[13, 5, 1]),
-        // The index of the first bad record.
+        // R77: the index of the first bad record.
         ask(&[3, 5, 0, 14, 5, 0]),
         ask(&[3, 5, 0, 3, 5, 0, 3, -1, 0]),
         ask(&[3, 5, 0, 14, 5, 0, 0, 5, 0]),
     ]
 }
 
-/// Both ends of each range, and one past each end.
+/// R75: both ends of each range, and one past each end.
 fn ranges() -> Vec<Question> {
     let mut questions = Vec::new();
     for &operand in &[-1, 0, 536_870_911, 536_870_912] {
@@ -74,11 +75,11 @@ fn ranges() -> Vec<Question> {
 
 fn order() -> Vec<Question> {
     vec![
-        // 21 comes first,
+        // R78: 21 comes first,
         ask(&[3]),
         ask(&[3, 5]),
         ask(&[14, 5, 0, 3]),
-        // then 20, also without room; then 10. Each list here is asked in rooms that are too small.
+        // R79: then 20, also without room; then 10. Each list here is asked in rooms that are too small.
         ask(&[3, 5, 0, 14, 5, 0]),
         ask(&[3, 5, 0, 6, -1, 0]),
     ]
