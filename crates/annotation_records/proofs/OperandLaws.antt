@@ -2,8 +2,8 @@
 -- widths, and their forms put one after another.
 use mathlib.Core.Path.{_≡_, refl, sym, _∙_, ap}
 use mathlib.Core.Bool.{Bool, true, false, cond, true≢false}
-use mathlib.Core.List.{List, [], _∷_, _++_, append-nil, append-assoc}
-use Prim.Native.Nat.{ℕ, suc, _+_, _*_, _^_, _≤_, _<_}
+use mathlib.Core.List.{List, [], _∷_, append-nil, append-assoc}
+use Prim.Native.Nat.{ℕ, _+_, _*_, _^_, _≤_, _<_}
 use native.Mathlib.Omega.{arith}
 use borrow.Author.Tests.{eq-eqb, ne-eqb, ltb-true}
 use lib.Dec.{eqb}
@@ -20,7 +20,6 @@ use Rattle.shortest.specs.Short.{short}
 use Rattle.shortest.proofs.ShortLaws.{short-some, short-most}
 use Rattle.annotation_records.specs.Ranges.{isSigned, carries, writable}
 use Rattle.annotation_records.specs.Operands.{operandOf, operandsOf, shorts, annotationBytes}
-use Rattle.annotation_records.specs.Records.{annotationIn}
 use Rattle.annotation_records.specs.Inner.{firstOperand, numbersIn, NumbersOf}
 use Rattle.annotation_records.proofs.RangeLaws.{kept, is-kept, Carried, signed, packed, two, plain, carried, Writable, can-be-written, writable-carries}
 use Rattle.annotation_records.specs.declared.record.Record.{Record}

@@ -11,6 +11,7 @@ use Rattle.annotation_records.specs.declared.record.Record.{Record}
 abbrev pub entriesEach : ℕ
 entriesEach = 3
 
+-- how many records a list has, and record k, counted from 0
 abbrev pub count : List ℤ → ℕ
 count list = length list / entriesEach
 

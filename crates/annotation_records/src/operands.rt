@@ -6,7 +6,7 @@ use shortest::put_short;
 use shortest::short_width;
 ghost use mathlib.Core.Path.{_≡_};
 ghost use mathlib.Core.Bool.{true};
-ghost use Prim.Native.Nat.{_+_, _*_, _^_, _≤_, _<_};
+ghost use Prim.Native.Nat.{_+_, _*_, _≤_, _<_};
 ghost use lib.ListN.{length};
 ghost use lib.IntN.{natAbs};
 ghost use Rattle.store.specs.Putting.{Putting};
@@ -33,7 +33,7 @@ impl Numbers {
         one
     }
 
-    // Puts them at a place, and returns the place after them. The caller guarantees the room.
+    // Puts them at a place, and returns the place after them. The caller guarantees that each has a form, and the room.
     pub fn put(self, out: &mut [u8], at: usize) -> usize
         requires { ⌜ HaveForms self ⌝ }
         requires { ⌜ at + length (shorts (numbersIn self)) ≤ length (now out) ⌝ }

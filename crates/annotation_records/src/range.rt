@@ -5,7 +5,7 @@ ghost use Prim.Native.Nat.{_≤_};
 ghost use lib.IntN.{natAbs};
 ghost use Rattle.annotation_records.specs.Ranges.{_to_, within, isSigned, firstRange, secondRange, carries, writable};
 
-// The largest number of four bytes, and the largest signed operands: alone, and above the four bits of 11.
+// The largest number that has a form, and the largest signed ones: alone, and above the four bits of 11.
 const LARGEST: i64 = 536870911;
 
 const LARGEST_SIGNED: i64 = 268435455;
@@ -15,7 +15,7 @@ const LARGEST_ABOVE: i64 = 16777215;
 // The largest number of four bits.
 const LARGEST_NIBBLE: i64 = 15;
 
-// Both ends belong to it.
+// From one number to another, both included.
 pub(crate) struct Range {
     pub low: i64,
     pub high: i64,
@@ -46,6 +46,7 @@ fn can_carry(opcode: u32, first: i64, second: i64) -> bool
     false
 }
 
+// What the first number of an opcode can be.
 fn first_range(opcode: u32) -> Range
     ensures { λ r. ⌜ r ≡ firstRange opcode ⌝ }
 {
@@ -67,7 +68,7 @@ fn first_range(opcode: u32) -> Range
     }
 }
 
-// Only 11 and 12 have a second number; any other's is 0.
+// What the second number can be. Only 11 and 12 have one; any other's is 0.
 fn second_range(opcode: u32) -> Range
     ensures { λ r. ⌜ r ≡ secondRange opcode ⌝ }
 {
@@ -96,6 +97,7 @@ pub(crate) fn is_signed(opcode: u32) -> bool
     opcode == 10
 }
 
+// Whether a number is from one to another, both included.
 fn is_within(z: i64, low: i64, high: i64) -> bool
     ensures { λ r. ⌜ r ≡ within (low to high) z ⌝ }
 {

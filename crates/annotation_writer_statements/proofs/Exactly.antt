@@ -5,17 +5,17 @@ use mathlib.Core.Bool.{Bool, true, false, cond, true≢false}
 use mathlib.Core.List.{List}
 use Prim.Native.Nat.{ℕ, _%_, _≤_, _<_}
 use native.Mathlib.Omega.{arith}
-use borrow.Author.Tests.{eq-eqb, ne-eqb, le-leb, eqb-true, eqb-false, leb-true, leb-false}
+use borrow.Author.Tests.{ne-eqb, le-leb, eqb-true, eqb-false, leb-true, leb-false}
 use lib.Dec.{T, eqb, leb}
 use lib.ListN.{length}
 use lib.IntN.{ℤ, pos, negℤ}
-use lib.Signed.{leZ, _≤ℤ_}
+use lib.Signed.{leZ}
 use Rattle.outcome.specs.Outcome.{Outcome, ok, refused, _>>=_, _>>_, require}
 use Rattle.outcome.specs.Refusal as paper
 use Rattle.outcome.proofs.OutcomeLaws.{and-true, below-or, ok-is, ok-refused, refused-is}
 use Rattle.outcome.proofs.EachLaws.{each-decides, each-stops, each-passed}
 use Rattle.annotation_records.specs.Records.{entriesEach, count, recordAt}
-use Rattle.annotation_records.specs.Ranges.{_to_, within, isSigned, firstRange, secondRange, carries, writable}
+use Rattle.annotation_records.specs.Ranges.{_to_, within, firstRange, secondRange, carries, writable}
 use Rattle.annotation_records.specs.declared.record.Record.{Record}
 use Rattle.annotation_records.proofs.RangeLaws.{is-zero}
 use Rattle.annotation_writer.specs.Refusal.{refusalIn}

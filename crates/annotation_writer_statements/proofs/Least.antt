@@ -1,15 +1,15 @@
 -- No bytes that decode to the same annotations are fewer: each number that is read takes at least its shortest form, and
 -- the operands that are written are no larger than those that were read.
-use mathlib.Core.Path.{_≡_, refl, sym, _∙_, ap}
+use mathlib.Core.Path.{_≡_, refl, sym}
 use mathlib.Core.Bool.{Bool, true, false, cond}
 use mathlib.Core.List.{List, [], _∷_, append-nil, map}
 use Prim.Native.Nat.{ℕ, zero, suc, _+_, _*_, _/_, _%_, _^_, _≤_, _<_}
 use native.Mathlib.Omega.{arith}
-use borrow.Author.Tests.{eqb-false, eqb-true}
+use borrow.Author.Tests.{eqb-false}
 use lib.Dec.{leb, eqb}
-use lib.ListN.{length, getD, length-append}
-use lib.IntN.{ℤ, pos, negsuc, negℤ, natAbs}
-use Rattle.outcome.specs.Outcome.{Outcome, ok, refused, require}
+use lib.ListN.{length, length-append}
+use lib.IntN.{ℤ, pos, negℤ, natAbs}
+use Rattle.outcome.specs.Outcome.{Outcome, ok, require}
 use Rattle.outcome.proofs.OutcomeLaws.{by-test, came, came-by}
 use Rattle.numbers.specs.Refusal.{Stop}
 use Rattle.numbers.specs.Number.{numberAt}
@@ -18,7 +18,6 @@ use Rattle.annotations.specs.Annotation.{triple, annotationOf}
 use Rattle.annotations.specs.Step.{PlacedTriple, Stepped, annotation, operands, stepAt}
 use Rattle.annotations.specs.declared.annotation.Triple.{Triple}
 use Rattle.annotations.proofs.MoveLaws.{advanced}
-use Rattle.decode.specs.Decode.{decodeAll}
 use Rattle.annotations_statements.specs.Statements.{StepsTo}
 use Rattle.annotations_statements.proofs.Statements.{agreement}
 use Rattle.shortest.specs.Short.{short}
@@ -30,10 +29,10 @@ use Rattle.annotation_records.specs.declared.record.Record.{Record}
 use Rattle.annotation_records.specs.declared.operands.Numbers.{Numbers}
 use Rattle.annotation_records.proofs.RangeLaws.{Writable, can-be-written}
 use Rattle.annotation_records.proofs.OperandLaws.{second-small, first-form, numbers-are}
-use Rattle.annotation_writer.specs.Writing.{annotationsIn, bytesOf, listBytes, writing}
+use Rattle.annotation_writer.specs.Writing.{annotationsIn, bytesOf}
 use Rattle.annotation_writer.specs.Inner.{AllWritable}
 use Rattle.annotation_writer.proofs.WriteLaws.{bytes-append}
-use Rattle.annotation_writer_statements.specs.Statements.{Bytes, foundIn, listed, Shortest}
+use Rattle.annotation_writer_statements.specs.Statements.{Bytes, Shortest}
 use Rattle.annotation_writer_statements.proofs.BytesLaws.{not-an-end}
 use Rattle.annotation_writer_statements.proofs.RoundTrip.{fine}
 

@@ -3,22 +3,21 @@ use mathlib.Core.Path.{_≡_, refl, sym, _∙_, ap}
 use mathlib.Core.Bool.{true, true≢false}
 use mathlib.Core.Logic.{⊎-elim}
 use mathlib.Core.List.{List, [], _∷_, _++_, append-nil, append-assoc, map}
-use Prim.Native.Nat.{ℕ, zero, suc, _+_, _*_, _/_, _%_, _^_, _≤_, _<_}
+use Prim.Native.Nat.{ℕ, suc, _+_, _*_, _/_, _%_, _^_, _≤_, _<_}
 use native.Mathlib.Omega.{arith}
 use native.Mathlib.Nat.{add-zero}
 use borrow.Author.Tests.{eq-eqb, ne-eqb}
 use lib.ListN.{length, length-append}
 use lib.IntN.{ℤ, pos, negsuc, natAbs}
-use Rattle.outcome.specs.Outcome.{Outcome, ok, refused}
-use Rattle.numbers.specs.Refusal.{Stop}
+use Rattle.outcome.specs.Outcome.{ok}
 use Rattle.numbers.specs.Number.{numberAt}
 use Rattle.annotations.specs.Signed.{signedOf}
 use Rattle.annotations.specs.Annotation.{triple, annotationOf}
-use Rattle.annotations.specs.Step.{PlacedTriple, Stepped, annotation, end, operands, stepAt}
+use Rattle.annotations.specs.Step.{PlacedTriple, annotation, operands, stepAt}
 use Rattle.annotations.specs.declared.annotation.Triple.{Triple}
 use Rattle.annotations.proofs.StepLaws.{code-known, one-operand, two-operands, past-end}
 use Rattle.annotations_statements.proofs.Statements.{signed-reading, agreement}
-use Rattle.annotations_statements.specs.Statements.{StepsTo, Stepped-through}
+use Rattle.annotations_statements.specs.Statements.{StepsTo}
 use Rattle.shortest.specs.Short.{short}
 use Rattle.shortest.proofs.ShortLaws.{short-some}
 use Rattle.shortest.proofs.ReadLaws.{short-reads-first, short-reads-in}

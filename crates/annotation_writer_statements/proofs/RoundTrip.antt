@@ -1,26 +1,24 @@
 -- An accepted list: what stands in the store, and that decoding it gives the list again.
 use mathlib.Core.Path.{_≡_, refl, sym, _∙_, ap}
 use mathlib.Core.List.{List, [], _∷_, _++_, append-assoc}
-use Prim.Native.Nat.{ℕ, zero, suc, _+_, _*_, _/_, _%_, _≤_, _<_}
+use Prim.Native.Nat.{ℕ, zero, suc, _+_, _*_, _≤_, _<_}
 use native.Mathlib.Omega.{arith}
 use native.Mathlib.Numerals.{add-one, add-two}
 use borrow.Author.Tests.{leb-true}
 use lib.Dec.{leb}
 use lib.ListN.{length, getD, take, drop, length-append}
-use lib.Seq.{sets, sets-eq, length-sets, take-suc, take-all, take-at, drop-at}
-use lib.IntN.{ℤ, pos, natAbs}
-use Rattle.outcome.specs.Outcome.{Outcome, ok, refused, _>>=_, require}
+use lib.Seq.{sets-eq, take-suc, take-all, take-at, drop-at}
+use lib.IntN.{ℤ, pos}
+use Rattle.outcome.specs.Outcome.{ok, require}
 use Rattle.outcome.specs.Store.{written}
 use Rattle.outcome.proofs.OutcomeLaws.{came, came-by, passed, ok-is}
-use Rattle.annotations.specs.Step.{PlacedTriple}
 use Rattle.annotations.specs.declared.annotation.Triple.{Triple}
-use Rattle.decode.specs.Decode.{Run, decodeAll, tripleEntries, entries, decodedEntries, decoding}
+use Rattle.decode.specs.Decode.{decodeAll, tripleEntries, entries, decodedEntries, decoding}
 use Rattle.annotations_statements.proofs.Statements.{decode-exactly}
-use Rattle.annotation_records.specs.Records.{entriesEach, count, recordAt, annotationIn}
-use Rattle.annotation_records.specs.declared.record.Record.{Record}
+use Rattle.annotation_records.specs.Records.{entriesEach, count, recordAt}
 use Rattle.annotation_records.proofs.RangeLaws.{can-be-written}
 use Rattle.annotation_writer.specs.Refusal.{refusalIn}
-use Rattle.annotation_writer.specs.Writing.{annotationsIn, bytesOf, listBytes, measuring, writing}
+use Rattle.annotation_writer.specs.Writing.{annotationsIn, listBytes, measuring, writing}
 use Rattle.annotation_writer.specs.Promises.{writtenIn, Writing}
 use Rattle.annotation_writer.specs.Inner.{AllWritable}
 use Rattle.annotation_writer.specs.declared.refusal.Refusal.the-variants.{NoRoom}

@@ -7,7 +7,7 @@ use Prim.Native.Nat.{ℕ, _%_, _≤_, _<_}
 use lib.ListN.{length}
 use lib.IntN.{ℤ, pos, negℤ}
 use lib.Signed.{_≤ℤ_}
-use Rattle.outcome.specs.Outcome.{Outcome, ok, refused}
+use Rattle.outcome.specs.Outcome.{ok, refused}
 use Rattle.annotation_records.specs.Records.{entriesEach, count, recordAt}
 use Rattle.annotation_records.specs.Ranges.{writable}
 use Rattle.annotation_records.specs.declared.record.Record.{Record}

@@ -4,12 +4,12 @@ use mathlib.Core.List.{List, _++_, map}
 use Prim.Native.Nat.{ℕ, _+_, _^_, _≤_, _<_}
 use lib.ListN.{length, getD, take, drop}
 use lib.IntN.{ℤ}
-use Rattle.outcome.specs.Outcome.{Outcome, ok, refused}
+use Rattle.outcome.specs.Outcome.{ok, refused}
 use Rattle.outcome.specs.Only.{Only₂, Injective}
 use Rattle.numbers.specs.Refusal.{Stop}
 use Rattle.numbers.specs.Number.{numberAt}
 use Rattle.numbers.specs.declared.number.Number.{Number}
-use Rattle.annotations.specs.Step.{PlacedTriple, Stepped, annotation, end, stepAt}
+use Rattle.annotations.specs.Step.{PlacedTriple, annotation, end, stepAt}
 use Rattle.annotations.specs.declared.annotation.Triple.{Triple}
 use Rattle.decode.specs.Decode.{Run, decodeAll, decodedEntries, decoding}
 use Rattle.shortest.specs.Short.{short}

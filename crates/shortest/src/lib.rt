@@ -40,6 +40,7 @@ pub fn put_short(out: &mut [u8], at: usize, n: u32) -> usize
     put_four(out, at, n)
 }
 
+// A number of 0x80 to 0x3fff: a first byte of 0x80 or more, and then the low eight bits.
 fn put_two(out: &mut [u8], at: usize, n: u32) -> usize
     requires { ⌜ (0x80 ≤ n) × (n < 0x4000) ⌝ }
     requires { ⌜ at + 2 ≤ length (now out) ⌝ }
@@ -50,6 +51,7 @@ fn put_two(out: &mut [u8], at: usize, n: u32) -> usize
     at + 2
 }
 
+// A number of 0x4000 or more: a first byte of 0xc0 or more, and then the low 24 bits, highest first.
 fn put_four(out: &mut [u8], at: usize, n: u32) -> usize
     requires { ⌜ (0x4000 ≤ n) × (n < 2 ^ 29) ⌝ }
     requires { ⌜ at + 4 ≤ length (now out) ⌝ }

@@ -1,6 +1,5 @@
 -- A number that small has a negation, and both casts keep it.
 -- Assumes that the number is no larger than an operand.
-use borrow.Author.Needs.{needs}
 use Rattle.annotation_records.proofs.RangeLaws.{negation-fits, negation-casts, negation-is, casts, cast-is}
 use Rattle.annotation_records.proofs.range.magnitude.Statement.{statement}
 use Rattle.annotation_records.proofs.range.magnitude.Tie as tie
