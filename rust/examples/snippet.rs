@@ -26,5 +26,10 @@ fn show() -> Result<(), Box<dyn Error>> {
     let mut store = [0; 6];
     let annotations = trovespan::decode(&[0x0b, 0x72, 0x06, 0x0f], &mut store)?;
     println!("annotations {annotations}: {store:?}");
+
+    // The same numbers as bytes again, each in its shortest form.
+    let mut out = [0; 4];
+    let length = trovespan::write_annotations(&store, &mut out)?;
+    println!("written {length}: {out:02x?}");
     Ok(())
 }
