@@ -20,8 +20,8 @@ within x z = cond (leZ (x .low) z) (leZ z (x .high)) false
 abbrev pub isSigned : ℕ → Bool
 isSigned op = cond (eqb op 6) true (eqb op 10)
 
--- "Operands run from 0 to 536870911; signed ones of 6 and 10 from -268435455 to 268435455; for 11, 0 to 15 and -16777215
--- to 16777215"
+-- "Operands run from 0 to 536870911; signed ones of 6 and 10 from -268435455 to 268435455; for 11, 0 to 15 and
+-- -16777215 to 16777215"
 abbrev pub firstRange : ℕ → Range
 firstRange op =
     cond (isSigned op) (negℤ (pos 268435455) to pos 268435455)

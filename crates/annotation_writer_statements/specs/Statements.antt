@@ -36,8 +36,8 @@ listed list = annotationsIn list (count list)
 abbrev pub foundIn : Run → List Triple
 foundIn r = map (λ (x : PlacedTriple). x .triple) (r .found)
 
--- a list that is accepted: its bytes are put first, the rest of the store stays; they decode to exactly its annotations,
--- and decoding ends at their length
+-- a list that is accepted: its bytes are put first, the rest of the store stays; they decode to exactly its
+-- annotations, and decoding ends at their length
 pub record RoundTrip : Type 0 where
   pub first : (list : List ℤ) (out out′ : List ℕ) (n : ℕ) → Writing list out (Length n) out′
       → take n out′ ≡ listBytes list
@@ -70,8 +70,8 @@ pub record Shortest : Type 0 where
   pub within : (s : List ℕ) → decodeAll s .at ≤ length s
 
 -- ---- bytes that follow, and bytes that come before
--- when more bytes follow, annotations, 8 and 9 stay as they are, and an end by opcode 0 stays an end, at the new length.
--- Only 7 and an end for want of bytes may change
+-- when more bytes follow, annotations, 8 and 9 stay as they are, and an end by opcode 0 stays an end, at the new
+-- length. Only 7 and an end for want of bytes may change
 pub record MoreBytes : Type 0 where
   pub found : (s t : List ℕ) (at : ℕ) {x : PlacedTriple} → stepAt s at ≡ ok (annotation x)
       → stepAt (s ++ t) at ≡ ok (annotation x)
