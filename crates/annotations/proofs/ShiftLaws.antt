@@ -41,11 +41,10 @@ module _ (u w : List ℕ) where
   unfolding stepAt operands laterStep
   step-is-later a =
       let P : Outcome Stop Stepped → Outcome Stop Stepped → Type 0 = Later (length u) in
-      let ends : ok (end (length (u ++ w))) ≡ laterStep (length u) (ok (end (length w))) = rw length-append in
       rw (ap (λ n. leb n (length u + a)) (length-append u w) ∙ leb-later (length u) (length w) a)
-      (by-tests P (leb (length w) a) (λ _. record { is = ends })
+      (by-tests P (leb (length w) a) (λ _. record { is = cc (length-append u w) })
       (λ _. after-number a _ _ λ code.
-      by-tests P (eqb (code .value) 0) (λ _. record { is = ends })
+      by-tests P (eqb (code .value) 0) (λ _. record { is = cc (length-append u w) })
       (λ _. after-test (leb (code .value) 13) _
       (after-number (code .next) _ _ λ v.
       by-tests P (eqb (code .value) 12) (λ _. after-number (v .next) _ _ λ x. record { is = refl })
