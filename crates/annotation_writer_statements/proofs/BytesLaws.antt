@@ -4,13 +4,11 @@ use mathlib.Core.Logic.{⊎-elim}
 use mathlib.Core.List.{List, _++_}
 use Prim.Native.Nat.{ℕ, _≤_, _<_}
 use native.Mathlib.Omega.{arith}
-use lib.Dec.{leb, eqb}
 use lib.ListN.{length}
-use Rattle.outcome.specs.Outcome.{Outcome, ok, refused, require}
-use Rattle.outcome.proofs.OutcomeLaws.{by-test, below-or, came, came-by, ok-refused, refused-is}
+use Rattle.outcome.specs.Outcome.{Outcome, ok, refused}
+use Rattle.outcome.proofs.OutcomeLaws.{below-or, ok-refused, refused-is}
 use Rattle.numbers.specs.Refusal.{Stop}
-use Rattle.numbers.specs.Number.{numberAt}
-use Rattle.annotations.specs.Step.{PlacedTriple, Stepped, annotation, end, operands, stepAt}
+use Rattle.annotations.specs.Step.{PlacedTriple, Stepped, annotation, end, stepAt}
 use Rattle.annotations.proofs.StepLaws.{past-end}
 use Rattle.annotations.proofs.PrefixLaws.{StepKeeps, step-keeps}
 use Rattle.annotations.proofs.ShiftLaws.{laterStep, step-later}
@@ -20,23 +18,6 @@ use Rattle.annotation_writer_statements.specs.Statements.{MoreBytes, Fro
 pub not-an-end : {x : PlacedTriple} {p : ℕ} → _≡_ {A = Outcome Stop Stepped} (ok (annotation x)) (ok (end p)) → ⊥
 not-an-end e = let z : _≡_ {A = ℕ} 0 1 = cc in omega arith
 
--- an end has the length for its place
-end-place : (s : List ℕ) (at : ℕ) {p : ℕ} → stepAt s at ≡ ok (end p) → p ≡ length s
-unfolding stepAt operands
-end-place s at {p} =
-    by-test P (leb (length s) at) (λ _. here)
-    (λ _ e. came-by (numberAt s at) _ e λ code _ f.
-    by-test P (eqb (code .value) 0) (λ _. here)
-    (λ _ g. came (require (leb (code .value) 13) _) _ g λ _ _ h.
-    came-by (numberAt s (code .next)) _ h λ v _ i.
-    by-test P (eqb (code .value) 12) (λ _ j. came-by (numberAt s (v .next)) _ j λ w _ k. absurd (not-an-end k)) (λ _ j. absurd (not-an-end j)) i) f)
-  where
-    P : Outcome Stop Stepped → Type 0
-    P o = o ≡ ok (end p) → p ≡ length s
-
-    here : _≡_ {A = Outcome Stop Stepped} (ok (end (length s))) (ok (end p)) → p ≡ length s
-    here e = cc
-
 module _ (s t : List ℕ) (at : ℕ) where
   found-more : {x : PlacedTriple} → stepAt s at ≡ ok (annotation x) → stepAt (s ++ t) at ≡ ok (annotation x)
   found-more {x} e =
@@ -44,7 +25,8 @@ module _ (s t : List ℕ) (at : ℕ) where
       (λ (l : length s ≤ at). absurd (not-an-end (sym e ∙ past-end s at l))) (below-or at (length s))
     where
       go : (o : Outcome Stop Stepped) → StepKeeps s t (stepAt (s ++ t) at) o → o ≡ ok (annotation x) → stepAt (s ++ t) at ≡ ok (annotation x)
-      go o (StepKeeps.same f) g = f ∙ g
+      go _ (StepKeeps.found f) g = f ∙ g
+      go _ (StepKeeps.stopped f) g = absurd (ok-refused (sym g))
       go _ (StepKeeps.ended f) g = absurd (not-an-end (sym g))
       go _ StepKeeps.short g = absurd (ok-refused (sym g))
 
@@ -54,7 +36,8 @@ module _ (s t : List ℕ) (at : ℕ) where
       (λ (l : length s ≤ at). absurd (ok-refused (sym (past-end s at l) ∙ e))) (below-or at (length s))
     where
       go : (o : Outcome Stop Stepped) → StepKeeps s t (stepAt (s ++ t) at) o → o ≡ refused why → stepAt (s ++ t) at ≡ refused why
-      go o (StepKeeps.same f) g = f ∙ g
+      go _ (StepKeeps.found f) g = absurd (ok-refused g)
+      go _ (StepKeeps.stopped f) g = f ∙ g
       go _ (StepKeeps.ended f) g = absurd (ok-refused g)
       go _ StepKeeps.short g = absurd (n (ap (λ (x : Stop). x .refusal .number) (sym (refused-is g))))
 
@@ -62,7 +45,8 @@ module _ (s t : List ℕ) (at : ℕ) where
   closed-more {p} l e = go (stepAt s at) (step-keeps s t at l) e
     where
       go : (o : Outcome Stop Stepped) → StepKeeps s t (stepAt (s ++ t) at) o → o ≡ ok (end p) → stepAt (s ++ t) at ≡ ok (end (length (s ++ t)))
-      go o (StepKeeps.same f) g = f ∙ g ∙ ap (λ q. ok (end q)) (end-place (s ++ t) at (f ∙ g))
+      go _ (StepKeeps.found f) g = absurd (not-an-end g)
+      go _ (StepKeeps.stopped f) g = absurd (ok-refused (sym g))
       go _ (StepKeeps.ended f) g = f
       go _ StepKeeps.short g = absurd (ok-refused (sym g))
 

@@ -13,14 +13,15 @@ use Rattle.outcome.proofs.OutcomeLaws.{by-tests}
 use Rattle.numbers.specs.Refusal.{Stop, stop}
 use Rattle.numbers.specs.Number.{numberAt}
 use Rattle.numbers.proofs.PrefixLaws.{NumberKeeps, number-keeps}
-use Rattle.annotations.specs.Step.{Stepped, end, operands, stepAt}
+use Rattle.annotations.specs.Step.{PlacedTriple, Stepped, annotation, end, operands, stepAt}
 use Rattle.numbers.specs.declared.refusal.Refusal.the-variants.{ShortData}
 use Rattle.numbers.specs.declared.number.Number.{Number}
 
 module _ (s t : List ℕ) where
   -- the second answer is over the first bytes, the first over more
   pub data StepKeeps (y : Outcome Stop Stepped) : Outcome Stop Stepped → Type 0 where
-    same : {x : Outcome Stop Stepped} → y ≡ x → StepKeeps y x
+    found : {x : PlacedTriple} → y ≡ ok (annotation x) → StepKeeps y (ok (annotation x))
+    stopped : {why : Stop} → y ≡ refused why → StepKeeps y (refused why)
     ended : {p : ℕ} → y ≡ ok (end (length (s ++ t))) → StepKeeps y (ok (end p))
     short : StepKeeps y (refused (stop ShortData (length s)))
 
@@ -30,7 +31,7 @@ module _ (s t : List ℕ) where
     where
       both : (r : Outcome Stop Number) → StepKeeps (r >>= k′) (r >>= k)
       both (ok n) = h n
-      both (refused why) = same refl
+      both (refused why) = stopped refl
 
       go : (r : Outcome Stop Number) → NumberKeeps s t at r → StepKeeps (numberAt (s ++ t) at >>= k′) (r >>= k)
       go r (NumberKeeps.same e) = rw e (both r)
@@ -39,7 +40,7 @@ module _ (s t : List ℕ) where
   after-test : (b : Bool) (why : Stop) {k k′ : Outcome Stop Stepped} → StepKeeps k′ k → StepKeeps (require b why >> k′) (require b why >> k)
   unfolding require _>>_
   after-test true why h = h
-  after-test false why h = same refl
+  after-test false why h = stopped refl
 
   pub step-keeps : (at : ℕ) → at < length s → StepKeeps (stepAt (s ++ t) at) (stepAt s at)
   unfolding stepAt operands
@@ -50,4 +51,4 @@ module _ (s t : List ℕ) where
       by-tests K (eqb (code .value) 0) (λ _. ended refl)
       (λ _. after-test (leb (code .value) 13) _
       (after-number (code .next) _ _ λ v.
-      by-tests K (eqb (code .value) 12) (λ _. after-number (v .next) _ _ λ w. same refl) (λ _. same refl))))
+      by-tests K (eqb (code .value) 12) (λ _. after-number (v .next) _ _ λ w. found refl) (λ _. found refl))))
