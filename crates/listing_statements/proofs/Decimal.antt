@@ -36,7 +36,7 @@ value-is (suc more) n h =
     (below-or n 10)
 
 -- every character is a digit, and the first is not 0
-abbrev Digit : ℕ → Type 0
+abbrev pub Digit : ℕ → Type 0
 Digit c = (48 ≤ c) × (c ≤ 57)
 
 only-digit : (n : ℕ) → n < 10 → (i : ℕ) → i < 1 → Digit (getD (digit n ∷ []) i 0)

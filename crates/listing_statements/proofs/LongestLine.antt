@@ -18,7 +18,7 @@ use Rattle.header.specs.declared.Header.{Header}
 use Rattle.header.proofs.OpenLaws.{is-located}
 use Rattle.directory.specs.Directory.{reached, streamCount}
 use Rattle.directory.proofs.DirectoryLaws.{reached-at}
-use Rattle.stream.specs.Stream.{ownPage, ownPages, present, skippedTo, found}
+use Rattle.stream.specs.Stream.{sizeAt, ownPage, ownPages, present, skippedTo, found}
 use Rattle.stream.specs.declared.Found.{Found}
 use Rattle.stream.proofs.FindLaws.{found-at, present-at}
 use Rattle.slices.specs.Slices.{slicesOf, cut}
@@ -56,6 +56,15 @@ Small why = (why .number < 2 ^ 32) × (why .value < 2 ^ 32)
 refusal-short : (why : paper.Refusal) → Small why → length (refusalText why) ≤ 30
 refusal-short why s = let x = short (s .0) in let y = short (s .1) in simp length-append (omega arith)
 
+-- ---- a stream has the size that the directory has for it
+pub size-is : (f : File) (len k : ℕ) {x : Found} → skippedTo f len k ≡ ok x → x .size ≡ sizeAt f (x .header .pagesize) k
+unfolding skippedTo
+size-is f len k e =
+    came-by _ _ e λ y s e₁.
+    came _ _ e₁ λ _ _ e₂.
+    came _ _ e₂ λ _ _ e₃.
+    rw (← ok-is e₃) (present-at f len k s .size)
+
 -- ---- a file of bytes
 module _ (f : File) (bytes : (i : ℕ) → f i < 256) where
   directory-small : (p w : ℕ) → directoryWord f p w < 2 ^ 32
@@ -86,12 +95,7 @@ module _ (f : File) (bytes : (i : ℕ) → f i < 256) where
         (refuses-then Small _ _ (refuses-require Small _ _ (omega arith, omega arith)) (refuses-none Small _)))
 
     size-small : {x : Found} → skippedTo f len k ≡ ok x → x .size < 2 ^ 32
-    unfolding skippedTo
-    size-small {x} e =
-        came-by _ _ e λ y s e₁.
-        came _ _ e₁ λ _ _ e₂.
-        came _ _ e₂ λ _ _ e₃.
-        rw (← ok-is e₃, present-at f len k s .size) (directory-small _ _)
+    size-small e = rw (size-is f len k e) (directory-small _ _)
 
     pages-small : {x : Found} → found f len k ≡ ok x → ownPages x < 2 ^ 32
     pages-small {x} e =
@@ -112,7 +116,7 @@ module _ (f : File) (bytes : (i : ℕ) → f i < 256) where
     shown-short (refused why) e =
         rw e
         (by-test (λ (s : Shown). length (shownText s) ≤ 30) (eqb (why .number) 5)
-        (λ _. let text = size-short 0 0 (omega arith) (omega arith) in omega arith)
+        (λ _. omega arith)
         (λ _. refusal-short why (found-small why e)))
 
   -- a file that is listed has its directory, and few streams

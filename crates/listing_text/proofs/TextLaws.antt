@@ -1,6 +1,6 @@
 -- The digits of a number are what `io::decimal` gives; and a line's parts, put run after run, are the line.
 use mathlib.Core.Path.{_≡_, _∙_}
-use mathlib.Core.List.{List, [], _∷_}
+use mathlib.Core.List.{List}
 use mathlib.Core.Logic.{⊎-elim}
 use Prim.Native.Nat.{ℕ, zero, suc, _+_, _-_, _/_, _%_, _^_, _≤_, _<_}
 use native.Mathlib.Omega.{arith}
@@ -11,7 +11,7 @@ use Rattle.outcome.proofs.OutcomeLaws.{below-or}
 use Rattle.store.specs.Putting.{Putting}
 use Rattle.store.proofs.PutLaws.{puts-more}
 use Rattle.io.specs.Digits.{glyph, digits, Fewest}
-use Rattle.listing_text.specs.Text.{digit, spelled, decimal, refusedWord, blank, refusalText, sizeText, absentText}
+use Rattle.listing_text.specs.Text.{digit, spelled, decimal, refusedWord, blank, refusalText, sizeText}
 
 -- ---- digits
 module _ (n : ℕ) where
@@ -61,10 +61,6 @@ module _ (n k : ℕ) (out : List ℕ) (few : Fewest 10 1 n k) (is : take k out �
 -- ---- the parts of a line, run after run
 pub puts-refusal : (number value : ℕ) {t t₁ t₂ : List ℕ} {at r₁ r₂ : ℕ} → Putting refusedWord t at t₁ r₁ → Putting (sizeText number value) t₁ r₁ t₂ r₂ → Putting (refusalText (record { number = number; value = value })) t at t₂ r₂
 puts-refusal number value p q = puts-more p q
-
-pub puts-absent : {t t′ : List ℕ} {at r : ℕ} → Putting (0x30 ∷ 0x20 ∷ 0x30 ∷ 0x0a ∷ []) t at t′ r → Putting absentText t at t′ r
-unfolding spelled
-puts-absent p = p
 
 -- a number of 64 bits has 20 digits at the most
 few-digits : (n k : ℕ) → Fewest 10 1 n k → n < 2 ^ 64 → k ≤ 20

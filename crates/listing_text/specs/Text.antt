@@ -25,6 +25,10 @@ streamsWord = 0x73 ∷ 0x74 ∷ 0x72 ∷ 0x65 ∷ 0x61 ∷ 0x6d ∷ 0x73 ∷ 0x2
 abbrev pub refusedWord : List ℕ
 refusedWord = 0x72 ∷ 0x65 ∷ 0x66 ∷ 0x75 ∷ 0x73 ∷ 0x65 ∷ 0x64 ∷ 0x20 ∷ []
 
+-- "absent"
+abbrev pub absentWord : List ℕ
+absentWord = 0x61 ∷ 0x62 ∷ 0x73 ∷ 0x65 ∷ 0x6e ∷ 0x74 ∷ []
+
 abbrev pub blank : List ℕ
 blank = 0x20 ∷ []
 
@@ -44,9 +48,9 @@ refusalText why = refusedWord ++ decimal (why .number) ++ blank ++ decimal (why 
 abbrev pub sizeText : ℕ → ℕ → List ℕ
 sizeText size slices = decimal size ++ blank ++ decimal slices ++ newline
 
--- "an absent stream shows as size 0 with 0 slices"
+-- request 2026-02: "an absent stream's line becomes `1 absent`, and `1 0 0` means a present stream of size 0"
 abbrev pub absentText : List ℕ
-absentText = sizeText 0 0
+absentText = absentWord ++ newline
 
 -- a stream's number, which its line begins with
 abbrev pub streamText : ℕ → List ℕ

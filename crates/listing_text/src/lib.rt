@@ -37,12 +37,12 @@ pub fn write_size(text: &mut [u8], at: usize, size: u32, slices: usize) -> usize
     put_numbers(text, at, size as u64, slices as u64)
 }
 
-// What is shown of an absent stream.
+// What is shown of an absent stream: the word, since `0 0` is a present one of size 0.
 pub fn write_absent(text: &mut [u8], at: usize) -> usize
-    requires { ⌜ at + 4 ≤ length (now text) ⌝ }
+    requires { ⌜ at + 7 ≤ length (now text) ⌝ }
     ensures { λ r. ⌜ Putting absentText (now (text .entry)) at (now (text .exit)) r ⌝ }
 {
-    put(text, at, b"0 0\n")
+    put(text, at, b"absent\n")
 }
 
 // `refused C V`, of a stream or of the whole file.

@@ -1,6 +1,5 @@
 -- The bytes of the literal are `absentText`, by computation. Assumes room for them.
 use borrow.Author.Needs.{needs}
-use Rattle.listing_text.proofs.TextLaws.{puts-absent}
 use Rattle.listing_text.proofs.write_absent.Statement.{statement}
 use Rattle.listing_text.proofs.write_absent.Tie as tie
 
@@ -14,7 +13,7 @@ same-length : tie.Need-same-length
 same-length c = search needs
 
 returns : tie.Need-returns
-returns c = search puts-absent
+returns c = search needs
 
 pub write-absent-spec : {M : Type 1} → statement M
 write-absent-spec = tie.close (tie.spec slice-aggregate-put put-requires same-length returns)

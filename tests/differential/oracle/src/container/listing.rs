@@ -103,7 +103,8 @@ pub fn head(streams: u32) -> String {
 fn line(k: u32, got: Result<usize>, slices: usize) -> String {
     match got {
         Ok(size) => size_line(k, size, slices),
-        Err(Error::StreamNotFound(_)) => size_line(k, 0, 0),
+        // Only streams below the count are listed, so this one is absent.
+        Err(Error::StreamNotFound(_)) => format!("{} absent\n", k),
         Err(error) => {
             let (number, value) = refusal(&error);
             format!("{} {}", k, refused_line(number, value))

@@ -13,7 +13,7 @@ use crate::random::Random;
 const PROGRAM_ROOM: usize = 65_536;
 
 /// Rooms around the end of each line of F, and the program's.
-const ROOMS: [usize; 12] = [0, 1, 9, 10, 17, 18, 23, 24, 31, 32, 33, PROGRAM_ROOM];
+const ROOMS: [usize; 12] = [0, 1, 9, 10, 17, 18, 26, 27, 34, 35, 36, PROGRAM_ROOM];
 
 const LONGEST_LISTED: usize = 65_536;
 

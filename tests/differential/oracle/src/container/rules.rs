@@ -313,8 +313,8 @@ fn listing_refused() -> Vec<Question> {
 fn listing() -> Vec<Question> {
     vec![
         // R66
-        f().list().room(32),
-        f().list().room(31),
+        f().list().room(35),
+        f().list().room(34),
         // R67
         f().put(1036, &[512]).list(),
         f().put(1036, &[513]).list(),
