@@ -1,9 +1,9 @@
 //! list FILE: lists the streams of a PDB file of any size.
 //!
 //! The output is that of the proved program `list`: `streams N`, then for each stream its number, size and number of
-//! slices, `K absent` for an absent stream, or `K refused C V` if it cannot be mapped. For a file that cannot be
-//! listed it is the one line `refused C V`, with a line on standard error and status 1. The limits of the proved program
-//! are not those of this one, which lists files of any size and up to 65,535 streams.
+//! slices, `K absent` for an absent stream, or `K refused C V` if it cannot be mapped. For a file that cannot be listed
+//! it is the one line `refused C V`, with a line on standard error and status 1. The limits of the proved program are not
+//! those of this one, which lists files of any size and up to 65,535 streams.
 //!
 //! A hostile file can take minutes. Then the progress is on standard error.
 

@@ -167,10 +167,10 @@ module _ (f : File) (len n k : ℕ) where
     zero-answer room = (
       λ z. map-found room (let none = no-slices z in omega arith) ∙ rw (no-slices z, z),
       λ is.
-      ⊎-elim
-      (λ (l : room < slices). absurd (ok-refused (sym is ∙ map-full room l)))
-      (λ (l : slices ≤ room). ap (λ (m : Mapped). m .length) (ok-is (sym (map-found room l) ∙ is)))
-      (below-or room slices),
+          ⊎-elim
+          (λ (l : room < slices). absurd (ok-refused (sym is ∙ map-full room l)))
+          (λ (l : slices ≤ room). ap (λ (m : Mapped). m .length) (ok-is (sym (map-found room l) ∙ is)))
+          (below-or room slices),
     )
 
 -- ---- a stream of a file that is listed: refused with 5, refused otherwise, or found

@@ -327,6 +327,7 @@ fn listing() -> Vec<Question> {
         f().put(1056, &[25]).list(),
         f().put(1040, &[0]).list(),
         f().put(DIRECTORY_SIZE, &[35]).list(),
+        f().put(1036, &[0]).put(DIRECTORY_SIZE, &[16]).list(),
         // R70
         f().put(1036, &[9]).list(),
         f().put(1036, &[10]).list(),
