@@ -39,6 +39,12 @@ use Rattle.listing_statements.proofs.LongestLine.{size-is}
 abbrev notFound : ℕ → paper.Refusal
 notFound k = record { number = 5; value = k }
 
+both : {A B : Type 0} → A → B → A ↔ B
+both a b = (λ _. b, λ _. a)
+
+neither : {A B : Type 0} → (A → ⊥) → (B → ⊥) → A ↔ B
+neither f g = (λ a. absurd (f a), λ b. absurd (g b))
+
 -- ---- 5 is given for one size alone
 reached-by : (f : File) (len : ℕ) {n : ℕ} {C : Type 0} → listable f len ≡ ok n → ((h : Header) → reached f len ≡ ok h → C) → C
 unfolding listable streamCount
@@ -193,10 +199,9 @@ module _ (f : File) (len n k : ℕ) (l : listable f len ≡ ok n) (m : k < n) {h
       let line = line-absent f len n k e t in
       let a : sizeAt f (headerOf f .pagesize) k ≡ absent = rw (← page-size f len d) (five-by-size f len d l k m why e t) in
       record {
-        absent-line = λ room. (λ _. map-refused f len n k (absent-found a) room, λ _. line);
-        empty-line = λ room.
-            (λ is. absurd (gone-sized (shows f len n k line (sized-as 0 0) .0 is)), λ is. absurd (no-answer e room is));
-        absent-size = (λ _. a, λ _. line);
+        absent-line = λ room. both line (map-refused f len n k (absent-found a) room);
+        empty-line = λ room. neither (λ is. gone-sized (shows f len n k line (sized-as 0 0) .0 is)) (no-answer e room);
+        absent-size = both line a;
         empty-size = λ e′. absurd (ok-refused (sym e′ ∙ e));
       }
 
@@ -205,17 +210,11 @@ module _ (f : File) (len n k : ℕ) (l : listable f len ≡ ok n) (m : k < n) {h
   by-other {why} e t =
       let line = line-refused f len n k e t in
       let other : why ≡ notFound k → ⊥ = λ is. true≢false (sym (ap (λ (w : paper.Refusal). eqb (w .number) 5) is) ∙ t) in
+      let there : lineAt f len n (suc k) ≡ lineText k not-there → ⊥ = λ is. refused-gone (shows f len n k line not-there .0 is) in
       record {
-        absent-line = λ room. (
-          λ is. absurd (refused-gone (shows f len n k line not-there .0 is)),
-          λ is. absurd (other (refused-is (sym (map-refused f len n k e room) ∙ is))),
-        );
-        empty-line = λ room.
-            (λ is. absurd (refused-sized (shows f len n k line (sized-as 0 0) .0 is)), λ is. absurd (no-answer e room is));
-        absent-size = (
-          λ is. absurd (refused-gone (shows f len n k line not-there .0 is)),
-          λ a. absurd (other (refused-is (sym e ∙ absent-found a))),
-        );
+        absent-line = λ room. neither there (λ is. other (refused-is (sym (map-refused f len n k e room) ∙ is)));
+        empty-line = λ room. neither (λ is. refused-sized (shows f len n k line (sized-as 0 0) .0 is)) (no-answer e room);
+        absent-size = neither there (λ a. other (refused-is (sym e ∙ absent-found a)));
         empty-size = λ e′. absurd (ok-refused (sym e′ ∙ e));
       }
 
@@ -224,11 +223,11 @@ module _ (f : File) (len n k : ℕ) (l : listable f len ≡ ok n) (m : k < n) {h
   by-there e =
       let zero = zero-size f len n k e in
       record {
-        absent-line = λ room. (λ is. absurd (not-gone f len n k e is), λ is. absurd (not-5 f len n k e room is));
+        absent-line = λ room. neither (not-gone f len n k e) (not-5 f len n k e room);
         empty-line = λ room.
             let answer = zero-answer f len n k e room in
             (λ is. answer .0 (zero .0 is), λ is. zero .1 (answer .1 is));
-        absent-size = (λ is. absurd (not-gone f len n k e is), λ a. absurd (ok-refused (sym e ∙ absent-found a)));
+        absent-size = neither (not-gone f len n k e) (λ a. ok-refused (sym e ∙ absent-found a));
         empty-size = λ e′. rw (← found-size e′) (zero-size f len n k e′);
       }
 
