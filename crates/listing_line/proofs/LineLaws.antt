@@ -1,5 +1,6 @@
 -- What a line shows is the answer of mapping its stream afresh, and the carried count is the pages of the streams before it.
 use mathlib.Core.Path.{_≡_, refl, sym, _∙_, ap}
+use mathlib.Core.Bool.{not}
 use mathlib.Core.List.{List, _++_}
 use Prim.Native.Nat.{ℕ, zero, suc, _+_, _-_, _*_, _/_, _^_, _≤_, _<_}
 use native.Mathlib.Omega.{arith}
@@ -23,7 +24,7 @@ use Rattle.paged.specs.declared.pages.Pages.the-variants.{Stream}
 use Rattle.runs.specs.Inner.{Lying}
 use Rattle.directory.proofs.DirectoryLaws.{reached-lies}
 use Rattle.slices.specs.Inner.{slicesThrough}
-use Rattle.stream.specs.Stream.{absent, present, pagesOf, skippedTo, found}
+use Rattle.stream.specs.Stream.{absent, sizeAt, present, pagesOf, skippedTo, found}
 use Rattle.stream.specs.Inner.{soughtIn, whySought, Before, Skipped, Finding}
 use Rattle.stream.proofs.StreamLaws.{before-none, before-one}
 use Rattle.stream.proofs.FindLaws.{found-not-5}
@@ -51,24 +52,24 @@ module _ {f : File} {len k : ℕ} {s : Listable} (w : Whole f len s) (l : k < s 
   pub own-size : 1 + k < 2 ^ 32
   own-size = let few = whole-at f len w .few in omega arith
 
+  -- of the tests before that of its size none fails
+  pub size-decides : present f len k ≡ (require (not (eqb (sizeAt f (s .header .pagesize) k) absent)) (record { number = 5; value = k }) >> ok (record { header = s .header; count = s .count; size = sizeAt f (s .header .pagesize) k }))
+  unfolding present require _>>=_ _>>_
+  size-decides =
+      let at = whole-at f len w in
+      let m = at .sizes in
+      rw (at .reached, le-leb 1 (s .header .directory / 4) (omega arith), ← at .count, lt-ltb k (s .count) l, le-leb (2 + k) (s .header .directory / 4) (omega arith))
+
   module _ {bytes : ℕ} (b : bytes ≡ directoryWord f (s .header .pagesize) (1 + k)) where
     pub show-absent : bytes ≡ absent → shownIn line.Absent ≡ shown f len k
-    unfolding shownIn shownOf mapped asked found skippedTo present require _>>=_ _>>_
-    show-absent a =
-        let at = whole-at f len w in
-        let m = at .sizes in
-        rw (at .reached, le-leb 1 (s .header .directory / 4) (omega arith), ← at .count, lt-ltb k (s .count) l, le-leb (2 + k) (s .header .directory / 4) (omega arith), ← b, eq-eqb bytes absent a)
+    unfolding shownIn shownOf mapped asked found skippedTo require _>>=_ _>>_
+    show-absent a = rw (size-decides, ← b, eq-eqb bytes absent a)
 
     pub show-skipped : {before : ℕ} → (bytes ≡ absent → ⊥) → Before f (s .header .pagesize) k before → Skipped f len k (record { header = s .header; count = s .count; size = bytes }) before
-    unfolding present require _>>=_ _>>_
+    unfolding require _>>_
     show-skipped a before =
-        let at = whole-at f len w in
-        let m = at .sizes in
-        record {
-          is = rw (at .reached, le-leb 1 (s .header .directory / 4) (omega arith), ← at .count, lt-ltb k (s .count) l, le-leb (2 + k) (s .header .directory / 4) (omega arith), ← b, ne-eqb bytes absent a);
-          sizes = omega arith;
-          pages = before;
-        }
+        let m = whole-at f len w .sizes in
+        record { is = rw (size-decides, ← b, ne-eqb bytes absent a); sizes = omega arith; pages = before }
 
     pub show-refused : {before : ℕ} {r : Sought} {why v : Refusal} → (bytes ≡ absent → ⊥) → Before f (s .header .pagesize) k before → Finding f len k r → r ≡ sought.Refused why → v ≡ whySought r → shownIn (line.Refused v) ≡ shown f len k
     unfolding shownIn shownOf mapped asked soughtIn _>>=_

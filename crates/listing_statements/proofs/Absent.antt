@@ -4,9 +4,9 @@ use mathlib.Core.Path.{_≡_, refl, sym, _∙_, ap}
 use mathlib.Core.Logic.{_↔_, ⊎-elim}
 use mathlib.Core.Bool.{Bool, true, false, not, true≢false}
 use mathlib.Core.List.{List, [], _∷_}
-use Prim.Native.Nat.{ℕ, suc, _+_, _/_, _≤_, _<_}
+use Prim.Native.Nat.{ℕ, suc, _≤_, _<_}
 use native.Mathlib.Omega.{arith}
-use borrow.Author.Tests.{le-leb, lt-leb, lt-ltb, eq-eqb, eqb-true}
+use borrow.Author.Tests.{le-leb, lt-leb, eq-eqb, eqb-true}
 use lib.Dec.{eqb}
 use lib.ListN.{length}
 use Rattle.outcome.specs.Outcome.{Outcome, ok, refused, _>>=_, _>>_, require}
@@ -19,7 +19,7 @@ use Rattle.header.specs.declared.Header.{Header}
 use Rattle.header.proofs.OpenLaws.{is-located}
 use Rattle.directory.specs.Directory.{reached, streamCount}
 use Rattle.directory.proofs.DirectoryLaws.{reached-at}
-use Rattle.stream.specs.Stream.{absent, sizeAt, present, skippedTo, found}
+use Rattle.stream.specs.Stream.{absent, sizeAt, skippedTo, found}
 use Rattle.stream.specs.declared.Found.{Found}
 use Rattle.stream.proofs.FindLaws.{found-at}
 use Rattle.slices.specs.Slices.{cut}
@@ -30,8 +30,8 @@ use Rattle.mapping.specs.Mapping.{slicesIn, mapping, mapped}
 use Rattle.mapping.specs.declared.Mapped.{Mapped}
 use Rattle.listing_whole.specs.Whole.{listable, judging}
 use Rattle.listing_whole.specs.Inner.{Whole}
-use Rattle.listing_whole.proofs.WholeLaws.{whole-at}
 use Rattle.listing_line.specs.Line.{Shown, sized-as, not-there, refused-with, shownOf, shownText, lineText, lineAt}
+use Rattle.listing_line.proofs.LineLaws.{size-decides}
 use Rattle.listing_statements.specs.Lines.{AbsentExactly, AbsentIsNotEmpty}
 use Rattle.listing_statements.proofs.Lines.{lines-told}
 use Rattle.listing_statements.proofs.LongestLine.{size-is}
@@ -63,17 +63,9 @@ module _ (f : File) (len : ℕ) {h : Header} (d : reached f len ≡ ok h) where
       abbrev size : ℕ
       size = sizeAt f (h .pagesize) k
 
-      -- of the tests before that of the size none fails
-      present-is : present f len k ≡ (require (not (eqb size absent)) (notFound k) >> ok (record { header = h; count = n; size = size }))
-      unfolding present require _>>=_ _>>_
-      present-is =
-          let at = whole-at f len whole in
-          let all = at .sizes in
-          rw (d, le-leb 1 (h .directory / 4) (omega arith), ← at .count, lt-ltb k n m, le-leb (2 + k) (h .directory / 4) (omega arith))
-
       found-absent : size ≡ absent → found f len k ≡ refused (notFound k)
       unfolding found skippedTo require _>>=_ _>>_
-      found-absent a = rw (present-is, eq-eqb size absent a)
+      found-absent a = rw (size-decides whole m, eq-eqb size absent a)
 
       abbrev By-size : paper.Refusal → Type 0
       By-size why = eqb (why .number) 5 ≡ true → size ≡ absent
@@ -88,7 +80,7 @@ module _ (f : File) (len : ℕ) {h : Header} (d : reached f len ≡ ok h) where
       five-by-size =
           refuses-by By-size _ _
           (refuses-by By-size _ _
-          (rw present-is (refuses-then By-size _ _ (required (eqb size absent) refl) (refuses-none By-size _)))
+          (rw (size-decides whole m) (refuses-then By-size _ _ (required (eqb size absent) refl) (refuses-none By-size _)))
           (λ y.
           refuses-then By-size _ _ (refuses-require By-size _ _ (λ e. cc))
           (refuses-then By-size _ _ (refuses-require By-size _ _ (λ e. cc)) (refuses-none By-size _))))

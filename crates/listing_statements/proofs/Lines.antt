@@ -6,7 +6,7 @@ use native.Mathlib.Omega.{arith}
 use lib.ListN.{length, getD}
 use Rattle.outcome.specs.Refusal as paper
 use Rattle.listing_text.specs.Text.{decimal, newline, sizeText, refusalText}
-use Rattle.listing_line.specs.Line.{Shown, sized-as, not-there, refused-with, shownText, lineText}
+use Rattle.listing_line.specs.Line.{Shown, sized-as, not-there, refused-with, shownText}
 use Rattle.listing_statements.specs.Statements.{valueFrom}
 use Rattle.listing_statements.specs.Lines.{LinesTold}
 use Rattle.listing_statements.proofs.Decimal.{Digit, decimal-right}
@@ -81,10 +81,10 @@ shown-told (refused-with why) not-there e = let z : _≡_ {A = ℕ} 0x72 0x61 = 
 shown-told (refused-with v) (refused-with w) e = ap refused-with (refusals v w e)
 
 -- ---- and the line
-line-told : (j k : ℕ) (a b : Shown) → lineText j a ≡ lineText k b → (j ≡ k) × (a ≡ b)
-line-told j k a b e =
-    let p = numbers 0x20 (omega arith) j k (simp append-assoc at e) in
-    (p .0, shown-told a b (p .1))
-
 pub lines-told : LinesTold
-lines-told = record { line = line-told }
+lines-told =
+    record {
+      line = λ j k a b e.
+          let p = numbers 0x20 (omega arith) j k (simp append-assoc at e) in
+          (p .0, shown-told a b (p .1));
+    }

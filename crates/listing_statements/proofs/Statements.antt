@@ -5,7 +5,6 @@ use lib.Dec.{eqb}
 use Rattle.outcome.specs.Outcome.{Outcome, ok, refused}
 use Rattle.outcome.specs.Refusal as paper
 use Rattle.outcome.proofs.OnlyLaws.{read-back, only, only₂}
-use Rattle.paged.specs.declared.refusal.Refusal.{Refusal}
 use Rattle.paged.specs.declared.refusal.Refusal.the-variants.{UnrecognizedFileFormat, UnimplementedFeature, InvalidPageSize, PageReferenceOutOfRange, StreamNotFound, FileEnds, ShortData, NoRoom}
 use Rattle.container_statements.proofs.Told.{refusal-back}
 use Rattle.listing_whole.specs.Whole.{listRefusalIn}
