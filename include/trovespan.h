@@ -47,7 +47,7 @@ enum {
     TROVESPAN_UNIMPLEMENTED_FEATURE = 2,
     /* The size. The page size is not a power of two from 0x100 to 0x800000. */
     TROVESPAN_INVALID_PAGE_SIZE = 3,
-    /* The page. A page number is 0 or above the number of pages used. */
+    /* The page. A page number is 0 or not below the number of pages used. */
     TROVESPAN_PAGE_REFERENCE_OUT_OF_RANGE = 4,
     /* The stream. The stream number is not below the stream count, or the stream is absent. */
     TROVESPAN_STREAM_NOT_FOUND = 5,

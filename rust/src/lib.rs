@@ -58,7 +58,7 @@
 //! | 1 | `UnrecognizedFileFormat` | 0 | fewer than 4,096 bytes, or no magic of a PDB file in front |
 //! | 2 | `UnimplementedFeature` | 0 | the file begins with the magic of the small format |
 //! | 3 | `InvalidPageSize` | the size | the page size is not a power of two from 0x100 to 0x800000 |
-//! | 4 | `PageReferenceOutOfRange` | the page | a page number is 0 or above the number of pages used |
+//! | 4 | `PageReferenceOutOfRange` | the page | a page number is 0 or not below the number of pages used; pdb 0.8.0 lets that number itself pass |
 //! | 5 | `StreamNotFound` | the stream | the stream number is not below the stream count, or the stream is absent |
 //! | 6 | `FileEnds` | 0 | the file ends too early |
 //! | 7 | `ShortData` | 0 | the header block, the directory or the annotation bytes end too early |

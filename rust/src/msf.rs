@@ -8,7 +8,8 @@ use crate::{ffi, Kind, Refusal};
 pub struct Opened {
     /// The number of bytes in a page.
     pub page_size: u32,
-    /// The number of pages used, which is also the largest page number that is not refused.
+    /// The number of pages used. Page numbers are below it: a list that names this number itself is refused with 4,
+    /// while pdb 0.8.0 lets it pass.
     pub pages_used: u32,
 }
 

@@ -31,8 +31,10 @@ fn unopened() -> Vec<(Vec<u8>, Refusal)> {
         (f_with(PAGE_SIZE, 0x100_0000), refusal(3, 0x100_0000)),
         (f_with(PAGE_SIZE, u32::MAX), refusal(3, 0xffff_ffff)),
         (f_with(LOCATION_ENTRY, 0), refusal(4, 0)),
+        (f_with(LOCATION_ENTRY, 24), refusal(4, 24)),
         (f_with(LOCATION_ENTRY, 25), refusal(4, 25)),
         (f_with(PAGES_USED, 0), refusal(4, 3)),
+        (f_with(PAGES_USED, 3), refusal(4, 3)),
         (f_overfull(), refusal(7, 0)),
     ]
 }
@@ -41,7 +43,9 @@ fn unopened() -> Vec<(Vec<u8>, Refusal)> {
 fn uncounted() -> Vec<(Vec<u8>, Refusal)> {
     vec![
         (f_with(LOCATION_LIST, 0), refusal(4, 0)),
+        (f_with(LOCATION_LIST, 24), refusal(4, 24)),
         (f_with(LOCATION_LIST, 25), refusal(4, 25)),
+        (f_with(PAGES_USED, 4), refusal(4, 4)),
         (f_past(LOCATION_ENTRY), refusal(6, 0)),
         (f_past(LOCATION_LIST), refusal(6, 0)),
         (f_with(DIRECTORY_SIZE, 0), refusal(7, 0)),
@@ -58,6 +62,7 @@ fn unmapped() -> Vec<(Vec<u8>, u32, Refusal)> {
         (f_with(COUNT, 0), 0, refusal(5, 0)),
         (f_with(SIZE_0, ABSENT), 0, refusal(5, 0)),
         (f_with(LAST_PAGE, 0), 2, refusal(4, 0)),
+        (f_with(LAST_PAGE, 24), 2, refusal(4, 24)),
         (f_with(LAST_PAGE, 25), 2, refusal(4, 25)),
         (f_with(LAST_PAGE, u32::MAX), 2, refusal(4, 0xffff_ffff)),
         (f_with(DIRECTORY_SIZE, 15), 0, refusal(7, 0)), // not all sizes
@@ -199,12 +204,12 @@ fn maps_what_is_past_the_file() {
     assert_eq!(mapped(&f_cut(5419), 0, None, (1, 1)), Ok((vec![(5120, 300)], 300)));
 }
 
-/// Document 01's case: of 24 pages used, page 24 is accepted, as in the Rust. It lies past the file.
+/// Of 24 pages used, page 23 is the last. Page 24 is refused (`unmapped`), as request 2026-03 has it.
 #[test]
 fn the_last_page_number_passes() {
-    let file = f_with(LAST_PAGE, 24);
-    assert_eq!(mapped(&file, 2, None, (2, 2)), Ok((vec![(2560, 512), (6144, 88)], 600)));
-    assert_eq!(extracted(&file, 2, None, 1000), Err(refusal(6, 0)));
+    let file = f_with(LAST_PAGE, 23);
+    assert_eq!(mapped(&file, 2, None, (2, 2)), Ok((vec![(2560, 512), (5888, 88)], 600)));
+    assert_eq!(extracted(&file, 2, None, 1000), Ok([&file[2560..3072], &file[5888..5976]].concat()));
 }
 
 #[test]

@@ -128,11 +128,11 @@ fn the_largest_stream() {
 /// A slice begins at its page number times the page size, also past the file.
 #[test]
 fn slices_past_4_gib() {
-    let pages = [511, 512, 600, 0x8000_0000, 0xffff_ffff];
+    let pages = [511, 512, 600, 0x8000_0000, 0xffff_fffe];
     let file = paged(5 << 23, &pages);
     let (mut offsets, mut sizes) = ([0; 4], [0; 4]);
     assert_eq!(map_counts(&file, 0, None, &mut offsets, &mut sizes), Ok((4, 5 << 23)));
-    assert_eq!(offsets, [511 << 23, 600 << 23, 1 << 54, 0xffff_ffff << 23]);
+    assert_eq!(offsets, [511 << 23, 600 << 23, 1 << 54, 0xffff_fffe << 23]);
     assert_eq!(sizes, [2 << 23, 1 << 23, 1 << 23, 1 << 23]);
 }
 

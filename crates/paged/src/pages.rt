@@ -82,5 +82,5 @@ pub fn page_fits(used: u32, page: PageNumber) -> bool
     if page.0 == 0 {
         return false;
     }
-    page.0 <= used
+    page.0 < used
 }

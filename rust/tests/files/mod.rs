@@ -70,7 +70,7 @@ pub fn hostile() -> Vec<u8> {
     const PAGE: usize = 4096;
     let mut file = vec![0; 7 * PAGE];
     file[..MAGIC.len()].copy_from_slice(MAGIC);
-    put(&mut file, PAGE_SIZE, &[PAGE as u32, 1, 6, 8 + 4 * 1_000_000, 0, 2]);
+    put(&mut file, PAGE_SIZE, &[PAGE as u32, 1, 7, 8 + 4 * 1_000_000, 0, 2]);
     put(&mut file, 2 * PAGE, &[4; 977]);
     put(&mut file, 2 * PAGE, &[3]);
     put(&mut file, 3 * PAGE, &[5; PAGE / 4]);

@@ -2,7 +2,7 @@
 //!
 //!     oracle record           the fixed list, the same at each run
 //!     oracle live SEED COUNT  COUNT random byte strings
-//!     oracle show N           reads a list, and prints record N with the Rust's answers
+//!     oracle show N           reads a list, and prints record N with the answers wanted
 //!     oracle alter N          reads a list, and writes it with one wrong answer, at record N
 //!
 //! These are about binary annotations. record-msf, live-msf, show-msf and alter-msf are about

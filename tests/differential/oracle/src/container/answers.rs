@@ -2,6 +2,7 @@
 //! answer is a list of words that begins with the number of its case. `None` means that pdb cannot be
 //! asked.
 
+use super::listing::Listing;
 use crate::digest::Word::{self, Byte, Plain};
 
 // The cases.
@@ -19,9 +20,9 @@ pub type Refusal = (u64, u64);
 
 pub type Answer = Vec<Word>;
 
-/// A library that is asked: pdb or ours.
+/// A library that is asked: pdb, in two ways, or ours.
 pub trait Library {
-    /// The page size and the largest page number.
+    /// The page size and pages_used.
     fn open(file: &[u8]) -> Result<(u64, u64), Refusal>;
 
     /// The number of streams.
@@ -43,6 +44,11 @@ pub trait Library {
         limit: Option<usize>,
         out: &mut [u8],
     ) -> Option<Result<usize, Refusal>>;
+
+    /// The listing, which our crate does not have.
+    fn listing(_: &[u8]) -> Option<Listing> {
+        None
+    }
 }
 
 pub fn open<L: Library>(file: &[u8]) -> Answer {

@@ -1,9 +1,9 @@
 //! Questions about one base file.
 
-use super::answers::bytes;
+use super::answers::{bytes, Library};
+use super::lent::Lent;
 use super::list::{Record, MOST_BYTES, MOST_ENTRIES};
-use super::listing::listing;
-use super::pdb;
+use super::pdb::{slices, Wanted};
 use super::question::{Question, Rooms, Run, Start, Sweep, COUNT, EXTRACT, LIST, MAP, OPEN};
 
 /// Stores that hold the answers of small streams.
@@ -140,13 +140,14 @@ impl About {
     /// The length of the whole listing, if pdb can be asked.
     pub fn listed(&self, question: &Question) -> Option<usize> {
         let file = question.files(&self.base).pop()?;
-        Some(listing(&file)?.text().len())
+        Some(Wanted::listing(&file)?.text().len())
     }
 
     /// The number of slices and bytes of the mapping, if it is accepted.
     pub fn needed(&self, question: &Question) -> Option<(usize, usize)> {
         let file = question.files(&self.base).pop()?;
-        let slices = pdb::slices(&file, question.stream, bytes(question.limit))?.ok()?;
+        let limit = bytes(question.limit);
+        let slices = slices(Lent::lowered(&file), question.stream, limit)?.ok()?;
         let bytes = slices.iter().map(|slice| slice.size).sum();
         Some((slices.len(), bytes))
     }

@@ -1,10 +1,11 @@
-//! A question of a list: with the digest of pdb's answers, and without what pdb cannot be asked.
+//! A question of a list: with the digest of the answers that ours must give, and without what pdb cannot be
+//! asked.
 
-use super::pdb::Pdb;
 use super::question::{Question, Sweep};
+use super::tally::Tally;
 use crate::digest::Digest;
 
-/// A question that pdb can be asked, and the digest of its answers.
+/// A question that pdb can be asked, and the digest of the answers.
 pub struct Asked {
     pub question: Question,
     pub digest: Digest,
@@ -12,15 +13,14 @@ pub struct Asked {
 
 /// The question without the operations that pdb cannot be asked. A sweep becomes a question for each run
 /// of values at which pdb can be asked for the same operations.
-pub fn asked(question: &Question, base: &[u8], skipped: &mut usize) -> Vec<Asked> {
+pub fn asked(question: &Question, base: &[u8], tally: &mut Tally) -> Vec<Asked> {
     let mut pieces: Vec<Asked> = Vec::new();
     for (i, file) in question.files(base).iter().enumerate() {
-        let answers = question.answers::<Pdb>(file);
+        let answers = tally.wanted(question, file);
         let operations = answers
             .iter()
             .filter(|(_, answer)| answer.is_some())
             .fold(0, |sum, (operation, _)| sum | operation);
-        *skipped += (question.operations ^ operations).count_ones() as usize;
         match pieces.last_mut() {
             Some(piece) if piece.question.operations == operations => piece.go_on(),
             _ => pieces.push(Asked::at(question, operations, i)),

@@ -1,18 +1,18 @@
-//! Our answers about containers beside pdb's.
+//! Our answers about containers beside those that they must be.
 
 use super::answers::Answer;
 use super::list::Record;
 use super::ours::Ours;
-use super::pdb::Pdb;
 use super::question::{Question, LIST};
 use super::show::{asked, name, swept};
+use super::tally::Tally;
 use crate::compare::Comparison;
 
 /// Compares the answers to these records, without the listings, which our crate does not have. Leaves out
-/// what pdb cannot be asked, and says how much that is.
+/// what pdb cannot be asked, and says how many answers there are.
 pub fn compare(records: impl Iterator<Item = Record>, comparison: &mut Comparison) {
     let mut base = Vec::new();
-    let mut skipped = 0;
+    let mut tally = Tally::default();
     for (n, record) in records.enumerate() {
         match record {
             Record::Base(file) => base = file,
@@ -22,31 +22,28 @@ pub fn compare(records: impl Iterator<Item = Record>, comparison: &mut Compariso
                     continue;
                 }
                 for (i, file) in question.files(&base).iter().enumerate() {
-                    let (ours, theirs) = both(&question, file, &mut skipped);
-                    comparison.compare(n, ours, theirs, || {
+                    let (ours, wanted) = both(&question, file, &mut tally);
+                    comparison.compare(n, ours, wanted, || {
                         asked(&question, &base) + &swept(&question, i)
                     });
                 }
             }
         }
     }
-    if skipped > 0 {
-        eprintln!("oracle: skipped {} answers, of over 1 GiB each", skipped);
-    }
+    tally.say();
 }
 
 type Answers = Vec<(&'static str, Answer)>;
 
-/// Our answers and pdb's, where pdb can be asked.
-fn both(question: &Question, file: &[u8], skipped: &mut usize) -> (Answers, Answers) {
+/// Our answers and what they must be, where pdb can be asked.
+fn both(question: &Question, file: &[u8], tally: &mut Tally) -> (Answers, Answers) {
     let ours = question.answers::<Ours>(file);
-    let theirs = question.answers::<Pdb>(file);
-    *skipped += theirs.iter().filter(|(_, answer)| answer.is_none()).count();
+    let wanted = tally.wanted(question, file);
     ours.into_iter()
-        .zip(theirs)
-        .filter_map(|((operation, ours), (_, theirs))| {
+        .zip(wanted)
+        .filter_map(|((operation, ours), (_, wanted))| {
             let name = name(operation);
-            Some(((name, ours?), (name, theirs?)))
+            Some(((name, ours?), (name, wanted?)))
         })
         .unzip()
 }

@@ -127,7 +127,7 @@ fn page_numbers(about: &mut About) {
         for &page in &[0, 1, 3, 4, 23, 24, 25, 26, 0x0100_0000, 0xffff_ffff] {
             about.ask_streams(about.edited(&[word(place, page)]), &ALL_STREAMS);
         }
-        for &used in &[0, 1, 2, 20, 21, 0xffff_ffff] {
+        for &used in &[0, 1, 2, 20, 21, 22, 0xffff_ffff] {
             let edits = [word(place, 24), word(PAGES_USED, used)];
             about.ask_streams(about.edited(&edits).and_listing(), &ALL_STREAMS);
         }
@@ -137,7 +137,7 @@ fn page_numbers(about: &mut About) {
 /// Later page numbers are checked whatever the limit.
 fn later_pages(about: &mut About) {
     let last = Container::f().directory_word(PAGE_WORDS.end - 1);
-    for &page in &[0, 25] {
+    for &page in &[0, 24, 25] {
         for &limit in &[0, 1, 256, 512] {
             about.ask(Question {
                 stream: 2,

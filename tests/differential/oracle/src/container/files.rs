@@ -28,6 +28,7 @@ pub struct Stream {
 #[derive(Clone, Debug)]
 pub struct Container {
     pub page_size: usize,
+    /// The number of pages.
     pub used: u32,
     /// The file's length.
     pub length: usize,

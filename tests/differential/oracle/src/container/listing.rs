@@ -1,9 +1,9 @@
 //! The listing of a file, made from pdb's answers: the count, and each stream's mapping. The text, the
 //! parts and refusal 11 are the project's own rules, and are written here from those rules alone.
 
-use super::answers::{untouched, Answer};
-use super::hostile;
-use super::pdb::{counted, refusal, Directory, SHORT_DATA};
+use super::answers::{untouched, Answer, Library};
+use super::lent::Lent;
+use super::pdb::{counted, refusal, Directory, Wanted, SHORT_DATA};
 use super::source::{open, Reading};
 use crate::common::{Error, Result};
 use crate::digest::Word::{Byte, Plain};
@@ -37,26 +37,20 @@ struct Part {
     next: Place,
 }
 
-/// The listing of a file. `None` if pdb cannot be asked, except for the hostile files, whose listing is
-/// computed.
-pub fn listing(file: &[u8]) -> Option<Listing> {
-    by_pdb(file).or_else(|| hostile::listing(file))
-}
-
-/// The text of the listing of a file.
+/// The text of the listing of a file, as ours must be.
 pub fn whole(file: &[u8]) -> String {
-    match listing(file) {
+    match Wanted::listing(file) {
         Some(listing) => listing.text(),
         None => crate::stop("pdb would make a view of over 1 GiB"),
     }
 }
 
-/// The listing made from pdb's answers.
-pub fn by_pdb(file: &[u8]) -> Option<Listing> {
+/// The listing made from pdb's answers. `None` if pdb cannot be asked.
+pub fn listing(file: Lent<'_>) -> Option<Listing> {
     if file.len() > MOST_BYTES {
         return Some(Listing::Refused(OVER_LIMIT, MOST_BYTES as u64));
     }
-    let directory = match counted(file)? {
+    let directory = match counted(file.clone())? {
         Ok(directory) => directory,
         Err(error) => {
             let (number, value) = refusal(&error);
@@ -78,7 +72,7 @@ fn over(directory: &Directory) -> Option<(u64, u64)> {
 }
 
 /// A listing is one question, so the file is opened once for all its streams.
-fn lines(file: &[u8], streams: u32) -> Option<Vec<String>> {
+fn lines(file: Lent<'_>, streams: u32) -> Option<Vec<String>> {
     let mut open = match open(file, Reading::OnlyTheTable) {
         Ok(open) => open,
         Err(_) => crate::stop("pdb opens a file once and then not again"),

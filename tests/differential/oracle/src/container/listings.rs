@@ -94,7 +94,7 @@ fn whole_refusals() -> Vec<Vec<Run>> {
         vec![bytes(31, &[1]), bytes(0, SMALL_MAGIC)],
         words(PAGE_SIZE, &[0, 0x80, 0x180, 0x100_0000, 0xffff_ffff]),
         // A page of the location list, and one of the directory, out of range or past the file.
-        words(PAGES_USED, &[0, 2, 3]),
+        words(PAGES_USED, &[0, 1, 3, 4, 5]),
         pages(ENTRIES),
         pages(f.location_word(0)),
         // No count, or not all sizes.
@@ -128,11 +128,12 @@ fn stream_refusals() -> Vec<Vec<Run>> {
     edits
 }
 
-/// Page numbers at a place: out of range; and 24, which is past the file, with pages_used 25, by which it
-/// is legal.
+/// Page numbers at a place: out of range, 24 of 24 among them; and 24, which is past the file, with
+/// pages_used 25, by which it is legal.
 fn pages(at: usize) -> Vec<Vec<Run>> {
     vec![
         vec![word(at, 0)],
+        vec![word(at, 24)],
         vec![word(at, 24), word(PAGES_USED, 25)],
         vec![word(at, 25)],
         vec![word(at, 0xffff_ffff)],
@@ -157,7 +158,7 @@ pub fn longest(random: &mut Random) -> About {
 /// A sound file of `length` bytes, whose last pages are streams.
 fn longest_file(random: &mut Random, length: usize) -> Vec<u8> {
     let container = Container {
-        used: 255,
+        used: 256,
         length,
         streams: vec![stream(300, &[254, 255]), stream(256, &[255])],
         ..Container::f()
@@ -204,7 +205,7 @@ fn of_streams(count: usize) -> Container {
         })
         .collect();
     Container {
-        used: 99,
+        used: 100,
         length: 100 * 0x100,
         entries: vec![5, 6],
         location: (20..90).collect(),

@@ -104,8 +104,9 @@ fn many_sizes(random: &mut Random) -> Vec<u32> {
         .collect()
 }
 
-/// A sound container: every page has one use, and the file is as long as its pages. Streams at the end
-/// are left out if the file would be too long.
+/// A container: every page has one use, and the file is as long as its pages. It is sound, except that
+/// pages_used leaves out the last page in one of four. Streams at the end are left out if the file would be
+/// too long.
 fn container(random: &mut Random, page_size: usize, mut sizes: Vec<u32>) -> Container {
     let first = need(HEADER_BLOCK, page_size);
     while first + Parts::of(&sizes, page_size).pages() > LONGEST_FILE / page_size {
@@ -120,7 +121,7 @@ fn container(random: &mut Random, page_size: usize, mut sizes: Vec<u32>) -> Cont
     let mut take = |pages: usize| -> Vec<u32> { free.by_ref().take(pages).collect() };
     Container {
         page_size,
-        used: (first + count - 1) as u32 + random.below(2) as u32,
+        used: (first + count + random.below(4) - 1) as u32,
         length: (first + count) * page_size,
         entries: take(parts.entries),
         location: take(parts.location),

@@ -13,6 +13,7 @@ mod hostile;
 mod isolation;
 #[cfg(feature = "ours")]
 mod large;
+mod lent;
 mod list;
 mod listed;
 mod listing;
@@ -27,6 +28,7 @@ mod shapes;
 mod show;
 mod source;
 mod steps;
+mod tally;
 
 #[cfg(feature = "ours")]
 pub use compare::compare;

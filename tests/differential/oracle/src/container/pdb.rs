@@ -1,9 +1,12 @@
 //! pdb's answers about a container, by the numbers of the project's rules. `None` means that pdb cannot be
 //! asked, since it would make a view of over 1 GiB.
 
-use std::io::{Cursor, ErrorKind};
+use std::io::ErrorKind;
 
 use super::answers::{Library, Refusal};
+use super::hostile;
+use super::lent::Lent;
+use super::listing::{listing, Listing};
 use super::source::{get, Reading};
 use crate::common::{Error, Result};
 use crate::msf::big::BigMSF;
@@ -24,15 +27,39 @@ const NO_ROOM: u64 = 10;
 
 const HEADER_BLOCK: usize = 4096;
 
+/// pdb, asked about the file itself.
 pub struct Pdb;
 
-impl Library for Pdb {
+/// What ours must answer: pdb, asked about the lowered file.
+pub struct Wanted;
+
+/// How a file is lent to pdb.
+pub trait Lends {
+    fn lend(file: &[u8]) -> Lent<'_>;
+}
+
+impl Lends for Pdb {
+    fn lend(file: &[u8]) -> Lent<'_> {
+        Lent::own(file)
+    }
+}
+
+impl Lends for Wanted {
+    fn lend(file: &[u8]) -> Lent<'_> {
+        Lent::lowered(file)
+    }
+}
+
+impl<P: Lends> Library for P {
+    /// However the file is lent, the second number is what pdb reads in the file itself.
     fn open(file: &[u8]) -> std::result::Result<(u64, u64), Refusal> {
-        opened(file).map_err(|error| refusal(&error))
+        let lent = opened(P::lend(file)).map_err(|error| refusal(&error))?;
+        let own = opened(Lent::own(file)).map_err(|error| refusal(&error))?;
+        Ok((lent.0, own.1))
     }
 
     fn count(file: &[u8]) -> Option<std::result::Result<u64, Refusal>> {
-        let counted = counted(file)?.map(|directory| directory.streams);
+        let counted = counted(P::lend(file))?.map(|directory| directory.streams);
         Some(counted.map_err(|error| refusal(&error)))
     }
 
@@ -43,7 +70,7 @@ impl Library for Pdb {
         offsets: &mut [u64],
         sizes: &mut [u64],
     ) -> Option<std::result::Result<(usize, usize), Refusal>> {
-        Some(match slices(file, stream, limit)? {
+        Some(match slices(P::lend(file), stream, limit)? {
             Err(error) => Err(refusal(&error)),
             Ok(slices) if slices.len() > offsets.len().min(sizes.len()) => no_room(slices.len()),
             Ok(slices) => {
@@ -63,7 +90,7 @@ impl Library for Pdb {
         limit: Option<usize>,
         out: &mut [u8],
     ) -> Option<std::result::Result<usize, Refusal>> {
-        let (got, seen) = get(file, stream, limit, Reading::Streams);
+        let (got, seen) = get(P::lend(file), stream, limit, Reading::Streams);
         if seen.over {
             return None;
         }
@@ -76,21 +103,24 @@ impl Library for Pdb {
             }
         })
     }
+
+    fn listing(file: &[u8]) -> Option<Listing> {
+        listing(P::lend(file)).or_else(|| hostile::listing(file))
+    }
 }
 
 fn no_room<T>(needed: usize) -> std::result::Result<T, Refusal> {
     Err((NO_ROOM, needed as u64))
 }
 
-fn opened(file: &[u8]) -> Result<(u64, u64)> {
-    open_msf(Cursor::new(file))?;
+fn opened(mut file: Lent<'_>) -> Result<(u64, u64)> {
+    open_msf(file.clone())?;
     // The result of `open_msf` hides its header, so the header is made again, as `open_msf` does.
-    let mut source = Cursor::new(file);
-    let block = source.view(&[SourceSlice {
+    let block = file.view(&[SourceSlice {
         offset: 0,
         size: HEADER_BLOCK,
     }])?;
-    let header = BigMSF::new(source, block)?.header;
+    let header = BigMSF::new(file, block)?.header;
     Ok((
         header.page_size as u64,
         u64::from(header.maximum_valid_page_number),
@@ -106,7 +136,7 @@ pub struct Directory {
 
 /// The directory's first word is the count. pdb has no such function. A request for any stream makes it
 /// read the directory, and refuse one that is too short.
-pub fn counted(file: &[u8]) -> Option<Result<Directory>> {
+pub fn counted(file: Lent<'_>) -> Option<Result<Directory>> {
     let (got, seen) = get(file, 0, Some(0), Reading::OnlyTheTable);
     if seen.over {
         return None;
@@ -123,7 +153,11 @@ pub fn counted(file: &[u8]) -> Option<Result<Directory>> {
 }
 
 /// A stream's slices, cut to the limit.
-pub fn slices(file: &[u8], stream: u32, limit: Option<usize>) -> Option<Result<Vec<SourceSlice>>> {
+pub fn slices(
+    file: Lent<'_>,
+    stream: u32,
+    limit: Option<usize>,
+) -> Option<Result<Vec<SourceSlice>>> {
     let (got, seen) = get(file, stream, limit, Reading::OnlyTheTable);
     if seen.over {
         return None;

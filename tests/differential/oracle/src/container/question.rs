@@ -1,7 +1,7 @@
 //! A question about a container: an edited copy of a base file, and what is asked about it.
 
 use super::answers::{self, Answer, Library};
-use super::listing::{listing, Place};
+use super::listing::Place;
 
 // The operations that a question asks for, as bits.
 pub const OPEN: u8 = 1;
@@ -85,8 +85,7 @@ impl Question {
         }
     }
 
-    /// A library's answers about a file, operation by operation. `None` if it cannot be asked. A listing is
-    /// made from pdb's answers, whichever library is asked.
+    /// A library's answers about a file, operation by operation. `None` if it cannot be asked.
     pub fn answers<L: Library>(&self, file: &[u8]) -> Vec<(u8, Option<Answer>)> {
         let Rooms {
             offsets,
@@ -98,7 +97,7 @@ impl Question {
             COUNT => answers::count::<L>(file),
             MAP => answers::map::<L>(file, self.stream, self.limit, (offsets, sizes)),
             EXTRACT => answers::extract::<L>(file, self.stream, self.limit, bytes),
-            _ => listing(file).map(|listing| listing.answer(self.place(), bytes)),
+            _ => L::listing(file).map(|listing| listing.answer(self.place(), bytes)),
         };
         [OPEN, COUNT, MAP, EXTRACT, LIST]
             .iter()

@@ -69,12 +69,15 @@ fn formats_and_page_sizes() -> Vec<Question> {
 fn pages_and_streams() -> Vec<Question> {
     vec![
         // R6
+        f().put(1056, &[23]).map(2),
         f().put(1056, &[24]).map(2),
         f().put(1056, &[25]).map(2),
         f().put(1056, &[0]).map(2),
+        f().put(PAGES_USED, &[5]).count(),
+        f().put(PAGES_USED, &[4]).open(),
+        f().put(PAGES_USED, &[4]).count(),
         f().put(PAGES_USED, &[3]).open(),
-        f().put(PAGES_USED, &[3]).count(),
-        f().put(PAGES_USED, &[2]).open(),
+        f().put(PAGES_USED, &[1]).put(ENTRIES, &[1]).open(),
         f().put(PAGES_USED, &[0]).open(),
         // R7
         f().map(2),
@@ -269,8 +272,8 @@ fn slices() -> Vec<Question> {
         f().put(1048, &[11, 10, 5]).map(2),
         f().put(1048, &[10, 10, 11]).map(2),
         // R43
-        high().put(1048, &[0xffff_ffff, 0xffff_ffff, 5]).map(2),
-        high().put(1048, &[0xffff_ffff, 0, 5]).map(2),
+        high().put(1048, &[0xffff_fffe, 0xffff_fffe, 5]).map(2),
+        high().put(1048, &[0xffff_fffe, 0xffff_ffff, 5]).map(2),
         // R44
         f().map(2).limited(512),
         f().map(2).limited(513),

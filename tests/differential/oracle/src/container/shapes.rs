@@ -14,8 +14,6 @@ const ALL_STREAMS: [u32; 4] = [0, 1, 2, 3];
 /// Location list and directory at the file's end; the file is cut at every byte that matters.
 pub fn truncated(random: &mut Random) -> About {
     let container = Container {
-        length: 0x1800,
-        used: 23,
         entries: vec![22],
         location: vec![23],
         ..Container::f()
@@ -275,13 +273,13 @@ pub fn location_pages(random: &mut Random) -> About {
         });
     }
     for &i in &[0, 1, 62, 63, 64, 65, 127, 128, 139] {
-        for &page in &[0, 160, 161] {
+        for &page in &[0, 160, 161, 162] {
             let edits = [word(container.location_word(i), page)];
             about.ask_streams(about.edited(&edits), &[35]);
         }
     }
     for i in 0..3 {
-        for &page in &[0, 5, 6, 7, 160, 161] {
+        for &page in &[0, 5, 6, 7, 160, 161, 162] {
             let edits = [word(ENTRIES + 4 * i, page)];
             about.ask_streams(about.edited(&edits), &[35]);
         }
@@ -321,7 +319,7 @@ fn many_streams() -> Container {
         })
         .collect();
     let mut container = Container {
-        used: 160,
+        used: 161,
         length: 161 * 256,
         entries: vec![5, 160, 6],
         location: (0..140).map(|i| 20 + (i * 37) % 140).collect(),
@@ -334,13 +332,13 @@ fn many_streams() -> Container {
     container
 }
 
-/// Page numbers up to the largest possible.
+/// Page numbers up to the largest that passes, and the one above it.
 pub fn high_pages(random: &mut Random) -> About {
     let container = Container {
         used: 0xffff_ffff,
         streams: vec![
-            stream(700, &[0xffff_fffe, 0xffff_ffff, 1]),
-            stream(256, &[0xffff_ffff]),
+            stream(700, &[0xffff_fffd, 0xffff_fffe, 1]),
+            stream(256, &[0xffff_fffe]),
             stream(600, &[0x0100_0000, 0x00ff_ffff, 0x0100_0000]),
         ],
         ..Container::f()
@@ -355,9 +353,36 @@ pub fn high_pages(random: &mut Random) -> About {
             });
         }
     }
-    // One above the largest number is 0, which is not a page.
+    // The next page number does not pass, nor does the one after it, which is 0 in 32 bits.
     let place = container.directory_word(container.first_page_word(0) + 2);
-    about.ask(about.edited(&[word(place, 0)]));
+    for &page in &[0xffff_ffff, 0] {
+        about.ask(about.edited(&[word(place, page)]));
+    }
+    about
+}
+
+/// Both sides of the last page number that passes, in each of the three lists, of few pages and of many. Page 1
+/// is location list, directory and stream.
+pub fn last_pages(random: &mut Random) -> About {
+    const USED: [u32; 7] = [0, 1, 2, 3, 24, 0xffff_fffe, 0xffff_ffff];
+    let container = Container {
+        used: 2,
+        entries: vec![1],
+        location: vec![1],
+        streams: vec![stream(40, &[1])],
+        ..Container::f()
+    };
+    let mut about = About::new(container.file(random));
+    let own = container.directory_word(container.first_page_word(0));
+    for &used in &USED {
+        let pages = [used.checked_sub(1), Some(used), used.checked_add(1)];
+        for page in pages.iter().flatten() {
+            for &place in &[ENTRIES, container.location_word(0), own] {
+                let edits = [word(PAGES_USED, used), word(place, *page)];
+                about.ask_streams(about.edited(&edits).and_listing(), &[0, 1]);
+            }
+        }
+    }
     about
 }
 
@@ -374,7 +399,7 @@ fn large_page(page_size: usize, length: usize, random: &mut Random) -> About {
     let size = page_size as u32;
     let container = Container {
         page_size,
-        used: 5,
+        used: 6,
         length,
         entries: vec![1],
         location: vec![2],
@@ -419,7 +444,7 @@ fn large_page(page_size: usize, length: usize, random: &mut Random) -> About {
 pub fn page_of_65536(random: &mut Random) -> About {
     let container = Container {
         page_size: 0x10000,
-        used: 1,
+        used: 2,
         length: 0x20000,
         entries: vec![1],
         location: vec![1],
@@ -455,7 +480,7 @@ pub fn largest_page(random: &mut Random) -> About {
     for &size in &[0, 1, 4, 36, 0x80_0000, 0x80_0001, 0x4000_0000, 0xffff_ffff] {
         about.ask(about.edited(&[word(DIRECTORY_SIZE, size)]));
     }
-    for &entry in &[0, 1, 0xffff_ffff] {
+    for &entry in &[0, 1, 0xffff_fffe, 0xffff_ffff] {
         about.ask(about.edited(&[word(ENTRIES, entry)]));
     }
     about.ask(Question {
@@ -481,7 +506,7 @@ pub fn over_and_over(random: &mut Random) -> About {
     };
     for &directory in &[0x1000, 0x1001, 4 * MIB, 4 * MIB + 1, 16 * MIB, 64 * MIB] {
         for &bytes in &[5 * 0x1000, 64 * MIB, 0xffff_fffe] {
-            for &used in &[5, 0xffff_ffff] {
+            for &used in &[6, 0xffff_ffff] {
                 about.ask_with_room(Question {
                     limit: Some(0x3001),
                     operations: COUNT | MAP | EXTRACT | LIST,
@@ -511,7 +536,7 @@ fn repeating(random: &mut Random) -> Vec<u8> {
     const PAGE: usize = 0x1000;
     let container = Container {
         page_size: PAGE,
-        used: 5,
+        used: 6,
         length: 6 * PAGE,
         entries: vec![2; ENTRIES_HELD],
         location: vec![3; PAGE / 4],

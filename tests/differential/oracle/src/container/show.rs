@@ -1,10 +1,10 @@
-//! A question and pdb's answers as text, to look into a difference.
+//! A question and the answers that ours must give, as text, to look into a difference.
 
 use std::fmt::Write;
 
 use super::list;
 use super::listing::whole;
-use super::pdb::Pdb;
+use super::pdb::Wanted;
 use super::question::{Question, COUNT, EXTRACT, LIST, MAP, OPEN};
 use crate::digest::{text, Digest};
 
@@ -27,7 +27,7 @@ fn show(
     let mut digest = Digest::default();
     for (i, file) in question.files(base).iter().enumerate() {
         out.push_str(&swept(question, i));
-        for (operation, answer) in question.answers::<Pdb>(file) {
+        for (operation, answer) in question.answers::<Wanted>(file) {
             let words = answer.unwrap_or_default();
             digest.mix_all(&words);
             writeln!(out, "  {}: {}", name(operation), text(&words))?;
@@ -36,7 +36,7 @@ fn show(
             }
         }
     }
-    writeln!(out, "recorded {:?}\nthe Rust {:?}", recorded, digest)
+    writeln!(out, "recorded {:?}\nwanted {:?}", recorded, digest)
 }
 
 /// The question and its base file, without the listing.

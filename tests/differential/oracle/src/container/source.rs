@@ -1,10 +1,11 @@
-//! The source that pdb reads a file from. It passes each request on to pdb's own source over a `Cursor`,
+//! The source that pdb reads a file from. It passes each request on to pdb's own source over the lent file,
 //! and keeps what was requested.
 
 use std::cell::{Ref, RefCell};
-use std::io::{self, Cursor};
+use std::io;
 use std::rc::Rc;
 
+use super::lent::Lent;
 use crate::common::Result;
 use crate::msf::{open_msf, Msf, Stream};
 use crate::source::{Source, SourceSlice, SourceView};
@@ -40,7 +41,7 @@ pub enum Reading {
 
 #[derive(Debug)]
 pub struct Watched<'s> {
-    file: Cursor<&'s [u8]>,
+    file: Lent<'s>,
     reading: Reading,
     seen: Rc<RefCell<Seen>>,
 }
@@ -51,10 +52,10 @@ pub struct Open<'s> {
     seen: Rc<RefCell<Seen>>,
 }
 
-pub fn open(file: &[u8], reading: Reading) -> Result<Open<'_>> {
+pub fn open(file: Lent<'_>, reading: Reading) -> Result<Open<'_>> {
     let seen = Rc::new(RefCell::new(Seen::default()));
     let msf = open_msf(Watched {
-        file: Cursor::new(file),
+        file,
         reading,
         seen: Rc::clone(&seen),
     })?;
@@ -73,7 +74,7 @@ impl<'s> Open<'s> {
 
 /// pdb's `get` of a stream, over a newly opened file, and what it requested.
 pub fn get(
-    file: &[u8],
+    file: Lent<'_>,
     stream: u32,
     limit: Option<usize>,
     reading: Reading,

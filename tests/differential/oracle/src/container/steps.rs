@@ -165,9 +165,9 @@ impl Header<'_> {
         page(i / self.page_size) * self.page_size + i % self.page_size
     }
 
-    /// Whether the first `count` page numbers are legal.
+    /// Whether the first `count` page numbers are legal: pages_used counts the pages (request 2026-03).
     fn fit(&self, page: impl Fn(usize) -> usize, count: usize) -> bool {
-        (0..count).all(|j| (1..=self.used).contains(&page(j)))
+        (0..count).all(|j| (1..self.used).contains(&page(j)))
     }
 
     /// Whether the first `size` bytes of these pages lie in the file.
