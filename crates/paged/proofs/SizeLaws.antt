@@ -1,4 +1,4 @@
--- Laws of the page size: its bounds, that it is a multiple of 4, need(b) once over the size, and products that fit.
+-- Laws of the page size: its bounds, that it is a power of 2, need(b) once over the size, and products that fit.
 use mathlib.Core.Path.{_≡_}
 use mathlib.Core.Bool.{true}
 use mathlib.Core.Logic.{⊎-elim}
@@ -7,7 +7,7 @@ use native.Mathlib.Omega.{arith}
 use native.Mathlib.Nat.{mod-lt, div-add-mod', pow-suc, mul-left-comm, div-lt-iff-lt-mul, div-mul-le-self, le-div-iff-mul-le, suc-mul, mul-le-mul-left, mul-one, le-refl}
 use borrow.Author.Tests.{leb-true, eqb-true}
 use lib.Count
-use lib.Count.{ones, ones-step}
+use lib.Count.{ones, ones-step, ones-le, under, trailingZeros}
 use lib.Dec.{leb, eqb}
 use Rattle.outcome.proofs.OutcomeLaws.{below-or, and-true}
 use Rattle.paged.specs.PageSize.{smallest, largest, sizeFits, PageSize, need}
@@ -19,7 +19,7 @@ passes p e =
     let b = and-true (leb smallest p) (leb p largest) (and-true (eqb (ones p) 1) _ e .1) in
     record { fits = e; least = leb-true smallest p (b .0); most = leb-true p largest (b .1) }
 
--- it is a multiple of 4: a number with one bit set that is above 1 is even, and so is its half
+-- ---- a number with one bit set is 2 to its count of trailing zeros, which is below the width
 no-ones : (k n : ℕ) → n < 2 ^ k → ones n ≡ 0 → n ≡ 0
 no-ones zero n h e = omega arith
 no-ones (suc k) n h e =
@@ -27,22 +27,36 @@ no-ones (suc k) n h e =
     let half : n / 2 ≡ 0 = no-ones k (n / 2) (let h′ = rw pow-suc at h in omega arith) (omega arith) in
     omega arith
 
-one-even : (n : ℕ) → 1 < n → n < 2 ^ 32 → ones n ≡ 1 → (n % 2 ≡ 0) × (ones (n / 2) ≡ 1)
-one-even n l u e =
+even-power : (k n t : ℕ) → n % 2 ≡ 0 → n / 2 ≡ 2 ^ t → t < k → (n ≡ 2 ^ under (n % 2) t) × (under (n % 2) t < suc k)
+even-power k n t z e l = rw z (rw pow-suc (omega arith), omega arith)
+
+odd-power : (k n t : ℕ) → n % 2 ≡ 1 → n / 2 ≡ 0 → (n ≡ 2 ^ under (n % 2) t) × (under (n % 2) t < suc k)
+odd-power k n t o e = rw o (omega arith, omega arith)
+
+one-power : (k n : ℕ) → n < 2 ^ k → ones n ≡ 1 → (n ≡ 2 ^ trailingZeros k n) × (trailingZeros k n < k)
+unfolding trailingZeros
+one-power zero n h e = absurd (omega (arith, ones-le 0 n h))
+one-power (suc k) n h e =
     let s = ones-step n in
-    ⊎-elim (λ (z : n % 2 < 1). (omega arith, omega arith))
-    (λ (o : 1 ≤ n % 2). absurd (let z : n / 2 ≡ 0 = no-ones 32 (n / 2) (omega arith) (omega arith) in omega arith))
+    let l : n / 2 < 2 ^ k = let h′ = rw pow-suc at h in omega arith in
+    ⊎-elim (λ (z : n % 2 < 1). let r = one-power k (n / 2) l (omega arith) in even-power k n _ (omega arith) (r .0) (r .1))
+    (λ (o : 1 ≤ n % 2). odd-power k n _ (omega arith) (no-ones k (n / 2) l (omega arith)))
     (below-or (n % 2) 1)
 
-pub size-by-four : (p : ℕ) → PageSize p → (q : ℕ) × (p ≡ 4 * q)
+pub size-power : (p : ℕ) → PageSize p → (p ≡ 2 ^ trailingZeros 64 p) × (trailingZeros 64 p < 64)
 unfolding sizeFits
-size-by-four p s =
-    let a = and-true (eqb (ones p) 1) _ (s .fits) in
-    let l = s .least in
+size-power p s =
     let u = s .most in
-    let c = one-even p (omega arith) (omega arith) (eqb-true _ _ (a .0)) in
-    let d = one-even (p / 2) (omega arith) (omega arith) (c .1) in
-    (p / 2 / 2, omega arith)
+    one-power 64 p (omega arith) (eqb-true _ _ (and-true (eqb (ones p) 1) _ (s .fits) .0))
+
+-- so a page size is a multiple of 4
+by-four : (p t : ℕ) → p ≡ 2 ^ t → smallest ≤ p → (q : ℕ) × (p ≡ 4 * q)
+by-four p zero e l = absurd (omega arith)
+by-four p (suc zero) e l = absurd (omega arith)
+by-four p (suc (suc t)) e l = (2 ^ t, let e′ = rw pow-suc at e in omega arith)
+
+pub size-by-four : (p : ℕ) → PageSize p → (q : ℕ) × (p ≡ 4 * q)
+size-by-four p s = by-four p _ (size-power p s .0) (s .least)
 
 -- a word at a multiple of 4 lies within its page
 four-apart : (x i q r : ℕ) → 4 * x + r ≡ 4 * i → r < 4 * q → r + 4 ≤ 4 * q

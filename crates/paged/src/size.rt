@@ -1,4 +1,5 @@
-// All arithmetic with the page size. Each leaf asks for a page size that passes, and there is no other division by it.
+// All arithmetic with the page size. Each leaf asks for a page size that passes. That has one bit set, so a shift divides by
+// it, and a mask gives the remainder.
 ghost use mathlib.Core.Path.{_≡_};
 ghost use Prim.Native.Nat.{_+_, _/_, _%_, _^_, _<_, _≤_, min};
 ghost use Rattle.paged.specs.PageSize.{PageSize, need};
@@ -10,7 +11,7 @@ pub fn pages_needed_to_store(size: usize, bytes: usize) -> usize
     requires { ⌜ bytes < 2 ^ 40 ⌝ }
     ensures { λ r. ⌜ r ≡ need size bytes ⌝ }
 {
-    (bytes + size - 1) / size
+    page_index(size, bytes + size - 1)
 }
 
 // Which page holds the byte at an offset, and where in that page.
@@ -18,14 +19,22 @@ pub(crate) fn page_index(size: usize, offset: usize) -> usize
     requires { ⌜ PageSize size ⌝ }
     ensures { λ r. ⌜ r ≡ offset / size ⌝ }
 {
-    offset / size
+    offset >> shift_of(size)
 }
 
 pub(crate) fn place_in_page(size: usize, offset: usize) -> usize
     requires { ⌜ PageSize size ⌝ }
     ensures { λ r. ⌜ r ≡ offset % size ⌝ }
 {
-    offset % size
+    offset & (size - 1)
+}
+
+// The page size is 2 to this power.
+fn shift_of(size: usize) -> u32
+    requires { ⌜ PageSize size ⌝ }
+    ensures { λ r. ⌜ (size ≡ 2 ^ r) × (r < 64) ⌝ }
+{
+    usize::trailing_zeros(size)
 }
 
 // How many words a page has from word w of a paged object on.
