@@ -1,5 +1,5 @@
-// All arithmetic with the page size. Each leaf asks for a page size that passes. That has one bit set, so a shift divides by
-// it, and a mask gives the remainder.
+// All arithmetic with the page size. Each leaf asks for a page size that passes. That has one bit set, so a shift
+// divides by it, and a mask gives the remainder.
 ghost use mathlib.Core.Path.{_≡_};
 ghost use Prim.Native.Nat.{_+_, _/_, _%_, _^_, _<_, _≤_, min};
 ghost use Rattle.paged.specs.PageSize.{PageSize, need};
