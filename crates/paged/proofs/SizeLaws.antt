@@ -6,7 +6,6 @@ use Prim.Native.Nat.{ℕ, zero, suc, _+_, _-_, _*_, _/_, _%_, _^_, _≤_, _<_}
 use native.Mathlib.Omega.{arith}
 use native.Mathlib.Nat.{mod-lt, div-add-mod', pow-suc, mul-left-comm, div-lt-iff-lt-mul, div-mul-le-self, le-div-iff-mul-le, suc-mul, mul-le-mul-left, mul-one, le-refl}
 use borrow.Author.Tests.{leb-true, eqb-true}
-use lib.Count
 use lib.Count.{ones, ones-step, ones-le, under, trailingZeros}
 use lib.Dec.{leb, eqb}
 use Rattle.outcome.proofs.OutcomeLaws.{below-or, and-true}
@@ -55,7 +54,7 @@ by-four p zero e l = absurd (omega arith)
 by-four p (suc zero) e l = absurd (omega arith)
 by-four p (suc (suc t)) e l = (2 ^ t, let e′ = rw pow-suc at e in omega arith)
 
-pub size-by-four : (p : ℕ) → PageSize p → (q : ℕ) × (p ≡ 4 * q)
+size-by-four : (p : ℕ) → PageSize p → (q : ℕ) × (p ≡ 4 * q)
 size-by-four p s = by-four p _ (size-power p s .0) (s .least)
 
 -- a word at a multiple of 4 lies within its page
