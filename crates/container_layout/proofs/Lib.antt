@@ -1,0 +1,3 @@
+pub mod PlaceLaws
+pub mod LayoutLaws
+pub mod PlanLaws

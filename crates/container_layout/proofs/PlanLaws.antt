@@ -1,0 +1,2 @@
+-- The ways out of planning.
+use Prim.Native.Nat.{ℕ}
