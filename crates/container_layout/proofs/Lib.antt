@@ -1,3 +1,4 @@
 pub mod PlaceLaws
 pub mod LayoutLaws
+pub mod ContainerLaws
 pub mod PlanLaws

@@ -63,7 +63,7 @@ unfoldable pub dataByte : ℕ → List ℕ → List ℕ → ℕ → ℕ
 dataByte p sizes bytes i =
     cond (ltb i (streamPages p sizes * p)) (streamsByte p sizes bytes i)
     (cond (ltb i ((streamPages p sizes + directoryPages p sizes) * p))
-      (numberBytes (directoryNumbers p sizes) (i - streamPages p sizes * p))
+    (numberBytes (directoryNumbers p sizes) (i - streamPages p sizes * p))
     (numberBytes (locationNumbers p sizes) (i - (streamPages p sizes + directoryPages p sizes) * p)))
 
 -- ---- the file

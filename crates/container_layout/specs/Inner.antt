@@ -1,11 +1,13 @@
 -- What inner functions promise their callers. None of it is part of an operation's own promise.
 use mathlib.Core.Path.{_≡_}
+use mathlib.Core.Bool.{Bool}
 use mathlib.Core.List.{List}
-use Prim.Native.Nat.{ℕ, _≤_}
+use Prim.Native.Nat.{ℕ, _*_, _^_, _<_}
+use lib.Dec.{eqb}
 use lib.ListN.{length}
 use Rattle.outcome.specs.Outcome.{Outcome, ok, refused}
 use Rattle.outcome.specs.Refusal as paper
-use Rattle.container_layout.specs.Layout.{bytesUpTo, streamPages}
+use Rattle.container_layout.specs.Layout.{bytesUpTo, streamPages, directorySize}
 use Rattle.container_layout.specs.Refusal.{refusalIn}
 use Rattle.container_layout.specs.Planning.{planning}
 use Rattle.container_layout.specs.declared.refusal.Refusal.{Refusal}
@@ -27,7 +29,24 @@ whyPlanned (planned.Layout l) = SizesDiffer
 pub record Planning (p : ℕ) (sizes : List ℕ) (given : ℕ) (r : Planned) : Type 0 where
   pub answer : plannedIn r ≡ planning p sizes given
 
--- ---- `stream_pages`: no stream has more pages than bytes
+-- ---- `sum_is`: whether the present sizes sum to the input's length
+pub record Adding (sizes : List ℕ) (given : ℕ) (r : Bool) : Type 0 where
+  pub is : r ≡ eqb (bytesUpTo sizes (length sizes)) given
+
+-- ---- `stream_pages`: the streams have no more bytes than a slice, and no more pages than bytes
+pub record Summing (sizes : List ℕ) : Type 0 where
+  pub below : bytesUpTo sizes (length sizes) < 2 ^ 63
+
 pub record Paging (p : ℕ) (sizes : List ℕ) (r : ℕ) : Type 0 where
   pub is : r ≡ streamPages p sizes
-  pub few : r ≤ bytesUpTo sizes (length sizes)
+  pub below : r < 2 ^ 63
+
+-- ---- so many bytes, as a slice has
+pub record Short (bytes : ℕ) : Type 0 where
+  pub below : bytes < 2 ^ 63
+
+-- ---- `lay_out`: the streams' pages, and the directory's numbers, as many as a directory of 32 bits holds
+pub record Numbered (p : ℕ) (sizes : List ℕ) (streams numbers : ℕ) : Type 0 where
+  pub pages : streams ≡ streamPages p sizes
+  pub all : 4 * numbers ≡ directorySize p sizes
+  pub few : numbers < 2 ^ 30

@@ -7,13 +7,11 @@ use paged::pages_needed_to_store;
 use stream::ABSENT;
 use stream::pages_of;
 ghost use mathlib.Core.Path.{_≡_};
-ghost use Prim.Native.Nat.{_*_, _^_, _<_, max};
-ghost use lib.Dec.{eqb};
-ghost use lib.ListN.{length};
+ghost use Prim.Native.Nat.{max};
 ghost use Rattle.paged.specs.PageSize.{PageSize, sizeFits};
-ghost use Rattle.container_layout.specs.Layout.{presentBytes, bytesUpTo, streamPages, directorySize};
+ghost use Rattle.container_layout.specs.Layout.{presentBytes};
 ghost use Rattle.container_layout.specs.Planning.{layoutOf};
-ghost use Rattle.container_layout.specs.Inner.{Planning, Paging, whyPlanned};
+ghost use Rattle.container_layout.specs.Inner.{Planning, Adding, Summing, Paging, Short, Numbered, whyPlanned};
 
 // Where the parts lie: P, the pages of all streams and of the directory, the location page, which is the last data page,
 // and pages_used.
@@ -50,7 +48,7 @@ const MOST_NUMBERS: usize = 0x3fffffff;
 
 // Judges everything but the room, for an input of so many bytes: refuses with 3, 22, 23 or 24, in this order.
 pub fn plan(pagesize: u32, sizes: &[u32], given: usize) -> Planned
-    requires { ⌜ given < 2 ^ 63 ⌝ }
+    requires { ⌜ Short given ⌝ }
     ensures { λ r. ⌜ Planning pagesize (now (sizes .entry)) given r ⌝ }
 {
     if !size_fits(pagesize) {
@@ -75,9 +73,7 @@ pub fn plan(pagesize: u32, sizes: &[u32], given: usize) -> Planned
 // The layout of a container that the format can hold.
 fn lay_out(size: usize, sizes: &[u32], streams: usize, numbers: usize) -> Layout
     requires { ⌜ PageSize size ⌝ }
-    requires { ⌜ streams ≡ streamPages size (now sizes) ⌝ }
-    requires { ⌜ 4 * numbers ≡ directorySize size (now sizes) ⌝ }
-    requires { ⌜ numbers < 2 ^ 30 ⌝ }
+    requires { ⌜ Numbered size (now sizes) streams numbers ⌝ }
     ensures { λ r. ⌜ r ≡ layoutOf size (now (sizes .entry)) ⌝ }
 {
     let directory = pages_needed_to_store(size, 4 * numbers);
@@ -98,12 +94,15 @@ fn size_fits(size: u32) -> bool
     if u32::count_ones(size) != 1 {
         return false;
     }
-    Header::SMALLEST <= size && size <= Header::LARGEST
+    if size < Header::SMALLEST {
+        return false;
+    }
+    size <= Header::LARGEST
 }
 
 // Whether the present sizes sum to the input's length.
 fn sum_is(sizes: &[u32], given: usize) -> bool
-    ensures { λ r. ⌜ r ≡ eqb (bytesUpTo (now (sizes .entry)) (length (now (sizes .entry)))) given ⌝ }
+    ensures { λ r. ⌜ Adding (now (sizes .entry)) given r ⌝ }
 {
     let mut left = given;
     let mut k: usize = 0;
@@ -121,7 +120,7 @@ fn sum_is(sizes: &[u32], given: usize) -> bool
 // The pages of all streams. They have at least as many bytes.
 fn stream_pages(size: usize, sizes: &[u32]) -> usize
     requires { ⌜ PageSize size ⌝ }
-    requires { ⌜ bytesUpTo (now sizes) (length (now sizes)) < 2 ^ 63 ⌝ }
+    requires { ⌜ Summing (now sizes) ⌝ }
     ensures { λ r. ⌜ Paging size (now (sizes .entry)) r ⌝ }
 {
     let mut pages: usize = 0;
