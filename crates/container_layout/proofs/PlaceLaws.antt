@@ -10,7 +10,7 @@ use borrow.Author.Tests.{ne-eqb, eq-eqb}
 use lib.ListN.{length, getD, length-append, List·getD-append, List·getD-eq-default}
 use lib.Seq.{getD-at}
 use Rattle.outcome.proofs.OutcomeLaws.{below-or}
-use Rattle.container_layout.specs.Place.{dataPage, rank, dataPages}
+use Rattle.container_layout.specs.Place.{dataPage, rank, dataPages, after}
 
 -- ---- quotient and remainder
 pub page-of : (p a x : ℕ) → x < p → (a * p + x) / p ≡ a
@@ -163,11 +163,7 @@ module _ (p : ℕ) (big : 3 ≤ p) where
         let e = div-add-mod' (n - 3) p in
         data-parts ((n - 3) / p) ((n - 3) % p) rest-in-run ∙ omega arith
 
--- ---- the page after the first r data pages: 1, after the header, or that after the last of them
-abbrev pub after : ℕ → ℕ → ℕ
-after p zero = 1
-after p (suc r) = dataPage p r + 1
-
+-- ---- the page after the first r data pages
 module _ (p : ℕ) (big : 3 ≤ p) where
   pub after-one : (r : ℕ) → after p (r + 1) ≡ dataPage p r + 1
   after-one r = let e : r + 1 ≡ suc r = omega arith in rw e
@@ -199,6 +195,37 @@ module _ (p : ℕ) (big : 3 ≤ p) where
           let n = suc-mul q p in
           let d = divides (p - 2) r q (p - 3) (omega arith) (omega arith) in
           rw (d .0, d .1, f, h) (omega arith, omega arith)
+
+-- they are before the r-th, and rise
+module _ (p : ℕ) (big : 3 ≤ p) where
+  pub after-most : (r : ℕ) → after p r ≤ dataPage p r
+  after-most r =
+      ⊎-elim (λ (z : r % (p - 2) < 1). omega (arith, after-maps p big r (omega arith) .0))
+      (λ (z : 1 ≤ r % (p - 2)). omega (arith, after-next p big r z))
+      (below-or (r % (p - 2)) 1)
+
+  pub after-rises : (r s : ℕ) → r ≤ s → after p r ≤ after p s
+  after-rises zero zero l = omega arith
+  after-rises zero (suc s) l = omega arith
+  after-rises (suc r) zero l = absurd (omega arith)
+  after-rises (suc r) (suc s) l = omega (arith, data-rises-le p big r s (omega arith))
+
+  pub after-some : (r : ℕ) → 1 ≤ after p r
+  after-some r = after-rises 0 r (omega arith)
+
+  -- a data page that lies between has a rank that does
+  pub rank-from : (a r : ℕ) → after p a ≤ dataPage p r → a ≤ r
+  rank-from zero r l = omega arith
+  rank-from (suc a) r l =
+      ⊎-elim (λ (m : r < suc a). absurd (omega (arith, data-rises-le p big r a (omega arith))))
+      (λ (m : suc a ≤ r). m)
+      (below-or r (suc a))
+
+  pub rank-to : (b r : ℕ) → dataPage p r < after p b → r < b
+  rank-to b r l =
+      ⊎-elim (λ (m : r < b). m)
+      (λ (m : b ≤ r). absurd (omega (arith, after-most b, data-rises-le p big b r m)))
+      (below-or r b)
 
 -- ---- the list of data pages
 module _ (p r : ℕ) where

@@ -26,3 +26,8 @@ pagesWith p map body i =
     cond (eqb (i / p % p) 1) (map (i / p / p) (i % p))
     (cond (eqb (i / p % p) 2) 0
     (body (rank p (i / p) * p + i % p)))
+
+-- the page after the first r data pages: page 1, after the header, or that after the last of them
+abbrev pub after : ℕ → ℕ → ℕ
+after p zero = 1
+after p (suc r) = dataPage p r + 1
