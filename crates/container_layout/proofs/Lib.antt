@@ -2,3 +2,4 @@ pub mod PlaceLaws
 pub mod LayoutLaws
 pub mod ContainerLaws
 pub mod PlanLaws
+pub mod PlannedLaws

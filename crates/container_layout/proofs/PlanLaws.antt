@@ -22,20 +22,20 @@ use Rattle.stream.specs.Stream.{absent, pagesOf}
 use Rattle.container_layout.specs.Place.{dataPage}
 use Rattle.container_layout.specs.Layout.{presentBytes, bytesUpTo, pagesUpTo, streamPages, directorySize, directoryPages, locationPage, pagesUsed}
 use Rattle.container_layout.specs.Planning.{layoutOf, planning}
-use Rattle.container_layout.specs.Inner.{plannedIn, Planning, Adding, Summing, Paging, Short, Numbered}
+use Rattle.container_layout.specs.Inner.{plannedIn, Planning, Sized, Adding, Summing, Paging, Short, Numbered}
 use Rattle.container_layout.specs.declared.refusal.Refusal.the-variants.{InvalidPageSize, SizesDiffer, DirectoryTooLarge, Over32Bits}
 use Rattle.container_layout.specs.declared.layout.Layout.{Layout}
 use Rattle.container_layout.specs.declared.layout.Planned.the-variants as planned
 use Rattle.container_layout.proofs.LayoutLaws.{pages-few, pages-under, bytes-next, bytes-rise, pages-next, size-fours, few-numbers, many-numbers, data-most, ranks-small, location-small, used-small}
 
 -- ---- `present_bytes`
-pub present-none : (size : ℕ) → size ≡ absent → 0 ≡ presentBytes size
+pub present-none : (size : ℕ) → size ≡ absent → Sized size 0
 unfolding presentBytes
-present-none size e = rw (eq-eqb size absent e)
+present-none size e = record { is = rw (eq-eqb size absent e); small = omega arith }
 
-pub present-all : (size : ℕ) → (size ≡ absent → ⊥) → size ≡ presentBytes size
+pub present-all : (size : ℕ) → (size ≡ absent → ⊥) → size < 2 ^ 32 → Sized size size
 unfolding presentBytes
-present-all size h = rw (ne-eqb size absent h)
+present-all size h l = record { is = rw (ne-eqb size absent h); small = l }
 
 pub ruleset present-cases = (present-none, present-all)
 
@@ -65,15 +65,15 @@ unfolding bytesUpTo
 taken-none sizes given = record { within = omega arith; sum = omega arith }
 
 module _ {sizes : List ℕ} {given left k : ℕ} (t : Taken-so-far sizes given left k) where
-  module _ (l : k < length sizes) {n : ℕ} (e : n ≡ presentBytes (getD sizes k 0)) where
+  module _ (l : k < length sizes) {n : ℕ} (e : Sized (getD sizes k 0) n) where
     pub taken-more : n ≤ left → Taken-so-far sizes given (left - n) (k + 1)
-    taken-more h = record { within = omega arith; sum = omega (arith, t .sum, bytes-next sizes k) }
+    taken-more h = record { within = omega arith; sum = omega (arith, t .sum, e .is, bytes-next sizes k) }
 
     pub taken-too-much : left < n → Adding sizes given false
     taken-too-much h =
         record {
           is = sym (ne-eqb _ given (λ (same : bytesUpTo sizes (length sizes) ≡ given).
-              omega (arith, t .sum, bytes-next sizes k, bytes-rise sizes (k + 1) (length sizes) (omega arith))));
+              omega (arith, t .sum, e .is, bytes-next sizes k, bytes-rise sizes (k + 1) (length sizes) (omega arith))));
         }
 
   taken-sum : length sizes ≤ k → eqb left 0 ≡ eqb (bytesUpTo sizes (length sizes)) given

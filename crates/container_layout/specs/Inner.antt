@@ -7,7 +7,7 @@ use lib.Dec.{eqb}
 use lib.ListN.{length}
 use Rattle.outcome.specs.Outcome.{Outcome, ok, refused}
 use Rattle.outcome.specs.Refusal as paper
-use Rattle.container_layout.specs.Layout.{bytesUpTo, streamPages, directorySize}
+use Rattle.container_layout.specs.Layout.{presentBytes, bytesUpTo, streamPages, directorySize}
 use Rattle.container_layout.specs.Refusal.{refusalIn}
 use Rattle.container_layout.specs.Planning.{planning}
 use Rattle.container_layout.specs.declared.refusal.Refusal.{Refusal}
@@ -28,6 +28,11 @@ whyPlanned (planned.Layout l) = SizesDiffer
 -- ---- `plan`
 pub record Planning (p : ℕ) (sizes : List ℕ) (given : ℕ) (r : Planned) : Type 0 where
   pub answer : plannedIn r ≡ planning p sizes given
+
+-- ---- `present_bytes`
+pub record Sized (size r : ℕ) : Type 0 where
+  pub is : r ≡ presentBytes size
+  pub small : r < 2 ^ 32
 
 -- ---- `sum_is`: whether the present sizes sum to the input's length
 pub record Adding (sizes : List ℕ) (given : ℕ) (r : Bool) : Type 0 where

@@ -9,9 +9,8 @@ use stream::pages_of;
 ghost use mathlib.Core.Path.{_≡_};
 ghost use Prim.Native.Nat.{max};
 ghost use Rattle.paged.specs.PageSize.{PageSize, sizeFits};
-ghost use Rattle.container_layout.specs.Layout.{presentBytes};
 ghost use Rattle.container_layout.specs.Planning.{layoutOf};
-ghost use Rattle.container_layout.specs.Inner.{Planning, Adding, Summing, Paging, Short, Numbered, whyPlanned};
+ghost use Rattle.container_layout.specs.Inner.{Planning, Sized, Adding, Summing, Paging, Short, Numbered, whyPlanned};
 
 // Where the parts lie: P, the pages of all streams and of the directory, the location page, which is the last data page,
 // and pages_used.
@@ -134,7 +133,7 @@ fn stream_pages(size: usize, sizes: &[u32]) -> usize
 
 // The bytes of a stream of this size: none where it is absent.
 pub fn present_bytes(size: u32) -> usize
-    ensures { λ r. ⌜ r ≡ presentBytes size ⌝ }
+    ensures { λ r. ⌜ Sized size r ⌝ }
 {
     if size == ABSENT {
         return 0;

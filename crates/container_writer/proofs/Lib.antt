@@ -1,0 +1,4 @@
+pub mod PartLaws
+pub mod StreamLaws
+pub mod FileLaws
+pub mod WriteLaws
