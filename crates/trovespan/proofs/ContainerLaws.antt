@@ -24,7 +24,12 @@ use Rattle.mapping.specs.declared.Mapping.the-variants as mapping
 use Rattle.msf.specs.declared.to_bytes.Extracted.{Extracted}
 use Rattle.msf.specs.declared.to_bytes.Extracted.the-variants as extracted
 use Rattle.trovespan.specs.Crossing.{told}
-use Rattle.trovespan.specs.Promises.{Opens, Counts, Maps, Extracts}
+use Rattle.container_layout.specs.Refusal as packer
+use Rattle.container_layout.specs.declared.refusal.Refusal as why-packer
+use Rattle.container_writer.specs.Promises.{writtenIn, Writing}
+use Rattle.container_writer.specs.declared.write.Written.{Written}
+use Rattle.container_writer.specs.declared.write.Written.the-variants as written-variants
+use Rattle.trovespan.specs.Promises.{Opens, Counts, Maps, Extracts, Packs}
 
 -- ---- `trovespan_open`
 module _ {f : File} {len : ℕ} {r : Opened} (p : Opening f len r) where
@@ -89,3 +94,19 @@ module _ {f : File} {len k : ℕ} {limit limit′ : Limit} {out out′ : List �
       rw⁻¹ crossed (record { answer = record { number = rw k n; value = rw k v }; after = p .after })
 
 pub ruleset extract-cases = (extracts-length, extracts-refused)
+
+-- ---- `trovespan_write_container`
+module _ {p : ℕ} {sizes bytes out out′ : List ℕ} {r : Written} (w : Writing p sizes bytes out r out′) where
+  pub packs-length : {n : ℕ} → r ≡ written-variants.Length n → Packs p sizes bytes out 0 n out′
+  unfolding told writtenIn
+  packs-length {n} e =
+      let k : _ ≡ ok n = sym (w .answer) ∙ ap writtenIn e in
+      record { answer = record { number = rw k; value = rw k }; after = w .after }
+
+  pub packs-refused : {why : why-packer.Refusal} {n v : ℕ} → r ≡ written-variants.Refused why → n ≡ packer.refusalIn why .number → v ≡ packer.refusalIn why .value → Packs p sizes bytes out n v out′
+  unfolding told writtenIn
+  packs-refused {why} e n v =
+      let k : _ ≡ refused (packer.refusalIn why) = sym (w .answer) ∙ ap writtenIn e in
+      record { answer = record { number = rw k n; value = rw k v }; after = w .after }
+
+pub ruleset pack-cases = (packs-length, packs-refused)

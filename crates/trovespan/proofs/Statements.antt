@@ -10,6 +10,9 @@ use Rattle.numbers.specs.declared.refusal.Refusal.the-variants as annotations-v
 use Rattle.annotation_writer.specs.Refusal as writer
 use Rattle.annotation_writer.specs.declared.refusal.Refusal as why-writer
 use Rattle.annotation_writer.specs.declared.refusal.Refusal.the-variants as writer-variants
+use Rattle.container_layout.specs.Refusal as packer
+use Rattle.container_layout.specs.declared.refusal.Refusal as why-packer
+use Rattle.container_layout.specs.declared.refusal.Refusal.the-variants as packer-variants
 use Rattle.annotations.specs.Annotation.{tripleIn}
 use Rattle.annotations.specs.declared.annotation.BinaryAnnotation.{BinaryAnnotation}
 use Rattle.annotations.specs.declared.annotation.BinaryAnnotation.the-variants as annotation
@@ -38,6 +41,8 @@ single-valued =
           (same (p .answer .number) (q .answer .number) i, same (p .answer .value) (q .answer .value) i, same (p .place-told) (q .place-told) i, same (p .after) (q .after) i);
       write-annotations = λ list out a b p q i.
           (same (p .answer .number) (q .answer .number) i, same (p .answer .value) (q .answer .value) i, same (p .after) (q .after) i);
+      write-container = λ size sizes bytes out a b p q i.
+          (same (p .answer .number) (q .answer .number) i, same (p .answer .value) (q .answer .value) i, same (p .after) (q .after) i);
     }
 
 -- ---- by each case
@@ -61,6 +66,13 @@ writer-apart (writer-variants.BadRecord index) = omega arith
 writer-apart writer-variants.RaggedList = omega arith
 writer-apart (writer-variants.NoRoom needed) = omega arith
 
+packer-apart : (why : why-packer.Refusal) → NotZero (packer.refusalIn why .number)
+packer-apart (packer-variants.InvalidPageSize size) = omega arith
+packer-apart packer-variants.SizesDiffer = omega arith
+packer-apart packer-variants.DirectoryTooLarge = omega arith
+packer-apart packer-variants.Over32Bits = omega arith
+packer-apart (packer-variants.NoRoom needed) = omega arith
+
 opcode-apart : (a : BinaryAnnotation) → NotZero (tripleIn a .opcode)
 opcode-apart (annotation.CodeOffset v) = omega arith
 opcode-apart (annotation.ChangeCodeOffsetBase v) = omega arith
@@ -82,6 +94,7 @@ apart =
       container-refusal = container-apart;
       annotations-refusal = λ why. annotations-apart why .0;
       writer-refusal = writer-apart;
+      packer-refusal = packer-apart;
       opcode = opcode-apart;
       placed = λ why. annotations-apart why .1;
     }

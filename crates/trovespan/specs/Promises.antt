@@ -23,6 +23,9 @@ use Rattle.annotations.specs.Step.{Stepped, stepAt}
 use Rattle.decode.specs.Decode.{DecodeStop, decodedEntries, decoding}
 use Rattle.numbers.specs.declared.number.Number.{Number}
 use Rattle.annotation_writer.specs.Writing.{listBytes, writing}
+use Rattle.container_layout.specs.Container.{container}
+use Rattle.container_writer.specs.Writing as container-writer
+use Rattle.container_writer.specs.Writing.{firstBytes}
 use Rattle.trovespan.specs.Crossing.{told, Tells, opcodeOf, firstOf, secondOf, nextOf, placeOr0}
 
 -- ---- the container. Where a refusal has nothing to say, the number is 0
@@ -74,11 +77,15 @@ pub record DecodesOf (s : List ℕ) (o : Outcome DecodeStop ℕ) (store : List �
 abbrev pub Decodes : List ℕ → List ℤ → ℕ → ℕ → ℕ → List ℤ → Type 0
 Decodes s store = DecodesOf s (decoding s (length store)) store
 
--- (o is what writing answers)
-pub record WritesOf (list : List ℤ) (o : Outcome paper.Refusal ℕ) (out : List ℕ) (r value : ℕ) (out′ : List ℕ)
+-- ---- the writers. (o is what writing answers, and these are the bytes that it writes)
+pub record WritesOf (bytes : ℕ → List ℕ) (o : Outcome paper.Refusal ℕ) (out : List ℕ) (r value : ℕ) (out′ : List ℕ)
     : Type 0 where
   pub answer : Tells o (λ n. n) r value
-  pub after : out′ ≡ written o (λ _. listBytes list) out
+  pub after : out′ ≡ written o bytes out
 
 abbrev pub Writes : List ℤ → List ℕ → ℕ → ℕ → List ℕ → Type 0
-Writes list out = WritesOf list (writing list (length out)) out
+Writes list out = WritesOf (λ _. listBytes list) (writing list (length out)) out
+
+abbrev pub Packs : ℕ → List ℕ → List ℕ → List ℕ → ℕ → ℕ → List ℕ → Type 0
+Packs p sizes bytes out =
+    WritesOf (firstBytes (container p sizes bytes)) (container-writer.writing p sizes (length bytes) (length out)) out

@@ -10,10 +10,12 @@ use Rattle.numbers.specs.Refusal as annotations
 use Rattle.numbers.specs.declared.refusal.Refusal as why-annotations
 use Rattle.annotation_writer.specs.Refusal as writer
 use Rattle.annotation_writer.specs.declared.refusal.Refusal as why-writer
+use Rattle.container_layout.specs.Refusal as packer
+use Rattle.container_layout.specs.declared.refusal.Refusal as why-packer
 use Rattle.annotations.specs.Annotation.{tripleIn}
 use Rattle.annotations.specs.declared.annotation.BinaryAnnotation.{BinaryAnnotation}
 use Rattle.extent.specs.declared.limit.Limit.{Limit}
-use Rattle.trovespan.specs.Promises.{Opens, Counts, Maps, Extracts, Numbers, Steps, Decodes, Writes}
+use Rattle.trovespan.specs.Promises.{Opens, Counts, Maps, Extracts, Numbers, Steps, Decodes, Writes, Packs}
 
 -- no other numbers, and no other stores, satisfy a promise. (All that a function gives is one tuple.)
 pub record SingleValued : Type 0 where
@@ -29,6 +31,8 @@ pub record SingleValued : Type 0 where
       → Only (λ (o : ℕ × ℕ × ℕ × List ℤ). Decodes s store (o .0) (o .1) (o .2) (o .3))
   pub write-annotations : (list : List ℤ) (out : List ℕ)
       → Only (λ (o : ℕ × ℕ × List ℕ). Writes list out (o .0) (o .1) (o .2))
+  pub write-container : (p : ℕ) (sizes bytes out : List ℕ)
+      → Only (λ (o : ℕ × ℕ × List ℕ). Packs p sizes bytes out (o .0) (o .1) (o .2))
 
 -- not 0, which stands for success or, as an opcode, for the end
 abbrev pub NotZero : ℕ → Type 0
@@ -43,5 +47,6 @@ pub record Apart : Type 0 where
   pub container-refusal : (why : why-container.Refusal) → NotZero (container.refusalIn why .number)
   pub annotations-refusal : (why : why-annotations.Refusal) → NotZero (annotations.refusalIn why .number)
   pub writer-refusal : (why : why-writer.Refusal) → NotZero (writer.refusalIn why .number)
+  pub packer-refusal : (why : why-packer.Refusal) → NotZero (packer.refusalIn why .number)
   pub opcode : (a : BinaryAnnotation) → NotZero (tripleIn a .opcode)
   pub placed : (why : why-annotations.Refusal) → BelowNoRoom (annotations.refusalIn why .number)

@@ -1,7 +1,8 @@
 // The static library that Rust and C link: each operation as a C function over numbers and slices. A slice crosses as a
 // pointer and a length.
 //
-// Each function returns 0 on success, else the refusal's number in document 01's table, or 20 or 21 of request 2026-01.
+// Each function returns 0 on success, else the refusal's number in document 01's table, 20 or 21 of request 2026-01, or 22
+// to 24 of request 2026-05.
 // It writes its other results to the numbers that it is lent: on a refusal `value` is the refusal's value, and a number
 // that has nothing to say is 0. The caller guarantees that what it lends is there and does not overlap, and nothing
 // else.
@@ -9,6 +10,7 @@ use annotation_writer::Written;
 use annotation_writer::write_annotations;
 use annotations::OperandStep;
 use annotations::operands_at;
+use container_writer::write_container;
 use decode::Decoded;
 use decode::decode_all;
 use msf::Counted;
@@ -24,7 +26,7 @@ ghost use mathlib.Core.Path.{_≡_};
 ghost use lib.ListN.{length};
 ghost use Rattle.parse_buffer.specs.Bytes.{byteAt};
 ghost use Rattle.trovespan.specs.Crossing.{limitOf};
-ghost use Rattle.trovespan.specs.Promises.{Opens, Counts, Maps, Extracts, Numbers, Steps, Decodes, Writes};
+ghost use Rattle.trovespan.specs.Promises.{Opens, Counts, Maps, Extracts, Numbers, Steps, Decodes, Writes, Packs};
 ghost use Rattle.trovespan.specs.Statements.{SingleValued, Apart};
 
 // Returned on success. No refusal has this number.
@@ -249,6 +251,32 @@ pub extern "C" fn trovespan_write_annotations(
             ACCEPTED
         }
         Written::Refused(why) => {
+            *value = why.value();
+            why.number()
+        }
+    }
+}
+
+// `value` is the file's length.
+#[no_mangle]
+pub extern "C" fn trovespan_write_container(
+    page_size: u32,
+    sizes: &[u32],
+    bytes: &[u8],
+    out: &mut [u8],
+    value: &mut u64,
+) -> u32
+    ensures { λ r. ⌜
+        Packs «page_size» (now (sizes .entry)) (now (bytes .entry)) (now (out .entry))
+        r (now (value .exit)) (now (out .exit))
+        ⌝ }
+{
+    match write_container(page_size, sizes, bytes, out) {
+        container_writer::Written::Length(n) => {
+            *value = n as u64;
+            ACCEPTED
+        }
+        container_writer::Written::Refused(why) => {
             *value = why.value();
             why.number()
         }
