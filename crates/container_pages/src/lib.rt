@@ -1,12 +1,12 @@
 // The pages of a container that are not copied, written into a lent store where they lie in the file.
 //
-// bytes.rt: zeros and numbers. numbers.rt: pages of numbers, which are the header's, the directory's and the location
+// fill.rt: zeros and numbers. numbers.rt: pages of numbers, which are the header's, the directory's and the location
 // list's. maps.rt: the free-map pages, and the pages of any part in file order.
-mod bytes;
+mod fill;
 mod maps;
 mod numbers;
 
-pub use bytes::put_zeros;
+pub use fill::put_zeros;
 pub use maps::begin_page;
 pub use numbers::Numbers;
 pub use numbers::put_numbers;

@@ -1,5 +1,5 @@
 // The free-map pages, and where the data pages begin behind them.
-use crate::bytes::put_zeros;
+use crate::fill::put_zeros;
 use container_layout::Layout;
 use container_layout::data_page;
 use paged::least;

@@ -1,6 +1,6 @@
 // Pages of numbers: the header after its magic, the directory and the location list. Past the last number there are
 // zeros.
-use crate::bytes::put_number;
+use crate::fill::put_number;
 use container_layout::Layout;
 use container_layout::data_page;
 ghost use mathlib.Core.Path.{_≡_};

@@ -3,8 +3,8 @@
 use Prim.Native.Nat.{_-_}
 use borrow.Author.Needs.{needs}
 use Rattle.container_pages.proofs.FillLaws.{Zeros-so-far, zeros-cases, zeros-room}
-use Rattle.container_pages.proofs.bytes.put_zeros.Statement.{statement}
-use Rattle.container_pages.proofs.bytes.put_zeros.Tie as tie
+use Rattle.container_pages.proofs.fill.put_zeros.Statement.{statement}
+use Rattle.container_pages.proofs.fill.put_zeros.Tie as tie
 
 abbrev Inv-loop : tie.InvT-loop
 Inv-loop out₀ from to i₀ out i = Zeros-so-far out₀ from to out i

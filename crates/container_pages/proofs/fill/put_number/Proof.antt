@@ -4,8 +4,8 @@ use native.Mathlib.Omega.{arith}
 use borrow.Author.Needs.{needs}
 use lib.ListN.{length-set}
 use Rattle.container_pages.proofs.FillLaws.{number-put}
-use Rattle.container_pages.proofs.bytes.put_number.Statement.{statement}
-use Rattle.container_pages.proofs.bytes.put_number.Tie as tie
+use Rattle.container_pages.proofs.fill.put_number.Statement.{statement}
+use Rattle.container_pages.proofs.fill.put_number.Tie as tie
 
 cast-out : tie.Need-cast-out
 cast-out c = search needs

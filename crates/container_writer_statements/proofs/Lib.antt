@@ -1,0 +1,13 @@
+pub mod AcceptedLaws
+pub mod ByteLaws
+pub mod WordsBack
+pub mod ReachBack
+pub mod FoundBack
+pub mod StreamBack
+pub mod RoleLaws
+pub mod FreeLaws
+pub mod ZeroLaws
+pub mod OwnLaws
+pub mod Exactly
+pub mod Told
+pub mod StoredLaws
