@@ -5,8 +5,7 @@ use mathlib.Core.Logic.{⊎-elim}
 use mathlib.Core.List.{List}
 use Prim.Native.Nat.{ℕ, zero, suc, _+_, _-_, _*_, _/_, _%_, _^_, max, _≤_, _<_}
 use native.Mathlib.Omega.{arith}
-use native.Mathlib.Nat.{le-antisymm, div-le-self, mul-le-mul, max-eq-left, max-eq-right, le-refl}
-use native.Mathlib.Nat.{mod-lt}
+use native.Mathlib.Nat.{le-antisymm, div-le-self, mod-lt, mod-le, mul-le-mul, max-eq-left, max-eq-right}
 use borrow.Author.Tests.{ne-eqb, eq-eqb, eqb-true, le-leb, lt-leb, not-true, not-false}
 use lib.Count
 use lib.Dec.{eqb, leb}
@@ -121,24 +120,25 @@ module _ {p : ℕ} {sizes : List ℕ} {pages k : ℕ} (t : Paged-so-far p sizes 
 pub ruleset paged-cases = (paged-none, paged-more, paged-all)
 
 -- ---- `data_page` and `pages_to_map`
+module _ (p r run : ℕ) (s : PageSize p) (h : r < 2 ^ 32) where
+  up-to : r / run * p + r % run ≤ 2 ^ 32 * 2 ^ 23 + 2 ^ 32
+  up-to = omega (arith, at-most-largest (r / run) s, div-le-self r run, mod-le r run)
+
+  pub page-mul-fits : Fits w64 (r / run * p)
+  page-mul-fits = record { fits = omega (arith, up-to) }
+
+  pub page-add-fits : Fits w64 (r / run * p + r % run)
+  page-add-fits = record { fits = omega (arith, up-to) }
+
+  pub page-next-fits : Fits w64 (r / run * p + r % run + 3)
+  page-next-fits = record { fits = omega (arith, up-to) }
+
 module _ (p r : ℕ) (s : PageSize p) where
   rest-below : r % (p - 2) < p - 2
   rest-below = let l = s .least in mod-lt r (omega arith)
 
   pub rest-within : r % (p - 2) ≤ p - 2
   rest-within = omega (arith, rest-below)
-
-  pub page-mul-fits : r < 2 ^ 32 → Fits w64 (r / (p - 2) * p)
-  page-mul-fits h =
-      record { fits = omega (arith, at-most-largest (r / (p - 2)) s, div-le-self r (p - 2)) }
-
-  pub page-add-fits : r < 2 ^ 32 → Fits w64 (r / (p - 2) * p + r % (p - 2))
-  page-add-fits h =
-      record { fits = let m = s .most in omega (arith, at-most-largest (r / (p - 2)) s, div-le-self r (p - 2), rest-below) }
-
-  pub page-next-fits : r < 2 ^ 32 → Fits w64 (r / (p - 2) * p + r % (p - 2) + 3)
-  page-next-fits h =
-      record { fits = let m = s .most in omega (arith, at-most-largest (r / (p - 2)) s, div-le-self r (p - 2), rest-below) }
 
   pub page-is : r / (p - 2) * p + r % (p - 2) + 3 ≡ dataPage p r
   unfolding dataPage

@@ -20,6 +20,6 @@ pub fn pages_to_map(size: usize, r: usize) -> usize
     requires { ⌜ PageSize size ⌝ }
     ensures { λ n. ⌜ n ≡ size - 2 - r % (size - 2) ⌝ }
 {
-    let run = size - 2;
-    run - r % run
+    let all = size - 2;
+    all - r % all
 }

@@ -70,6 +70,8 @@ module _ {l : Layout} {sizes : List ℕ} (d : Laid l sizes) where
   pub header-size : {w : ℕ} → w ≡ 3 → 4 * (1 + length sizes + l .streams) ≡ getD (headerNumbers (l .pagesize) sizes) w 0
   header-size e = rw e numbers-are
 
+pub ruleset header-fits = (used-fits, last-fits)
+
 pub header-none : (p : ℕ) (sizes : List ℕ) (w : ℕ) → (w ≡ 0 → ⊥) → (w ≡ 1 → ⊥) → (w ≡ 2 → ⊥) → (w ≡ 3 → ⊥) → (w ≡ 5 → ⊥) → 0 ≡ getD (headerNumbers p sizes) w 0
 header-none p sizes zero a b c d e = absurd (a refl)
 header-none p sizes (suc zero) a b c d e = absurd (b refl)

@@ -138,6 +138,9 @@ module _ {l : Layout} (b : Bounds l) {r : ℕ} (run o : List ℕ) (q : InRun l r
                   (filled-more (omega (arith, p .place)) order (filled-as copied (filled-put p)) (filled-as zeroed z)));
             }
 
+pub run-mul : {l : Layout} → Bounds l → {m : ℕ} (rest : ℕ) → m ≡ l .pagesize - 2 - rest → Fits w64 (m * l .pagesize)
+run-mul {l} b {m} rest c = let s = b .size .most in record { fits = omega (arith, at-most-largest m (b .size)) }
+
 -- ---- `write_stream`: i bytes of the stream are written, in whole pages but for its end
 pub record Stream-so-far (l : Layout) (first : ℕ) (stream o o₁ : List ℕ) (i r : ℕ) : Type 0 where
   pub filled : PartFilled l first r (byteAt stream) o o₁
@@ -163,9 +166,6 @@ module _ {l : Layout} (b : Bounds l) {first : ℕ} {stream o o₁ : List ℕ} {i
   pos = let s = size-three (b .size) in omega arith
 
   module _ (k : i < length stream) {m : ℕ} (c : m ≡ l .pagesize - 2 - r % (l .pagesize - 2)) where
-    pub stream-mul : Fits w64 (m * l .pagesize)
-    stream-mul = let s = b .size .most in record { fits = omega (arith, at-most-largest m (b .size)) }
-
     module _ {n : ℕ} (e : n ≡ min (m * l .pagesize) (length stream - i)) where
       run-some : 0 < m
       run-some =

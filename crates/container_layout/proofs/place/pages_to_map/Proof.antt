@@ -5,8 +5,8 @@ use Rattle.container_layout.proofs.PlanLaws.{rest-within}
 use Rattle.container_layout.proofs.place.pages_to_map.Statement.{statement}
 use Rattle.container_layout.proofs.place.pages_to_map.Tie as tie
 
-sub-run : tie.Need-sub-run
-sub-run c = search needs
+sub-all : tie.Need-sub-all
+sub-all c = search needs
 
 rem-result : tie.Need-rem-result
 rem-result c = search needs
@@ -18,4 +18,4 @@ returns : tie.Need-returns
 returns c = search needs
 
 pub pages-to-map-spec : {M : Type 1} → statement M
-pages-to-map-spec = tie.close (tie.spec sub-run rem-result sub-result returns)
+pages-to-map-spec = tie.close (tie.spec sub-all rem-result sub-result returns)

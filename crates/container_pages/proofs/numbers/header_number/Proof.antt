@@ -1,7 +1,7 @@
 -- Each arm is the number of that place, and has 32 bits.
 -- Assumes the layout of these sizes.
 use borrow.Author.Needs.{needs}
-use Rattle.container_pages.proofs.NumberLaws.{used-fits, last-fits, numbers-fit, bytes-fit, size-fits, header-size, header-none}
+use Rattle.container_pages.proofs.NumberLaws.{header-fits, numbers-fit, bytes-fit, size-fits, header-size, header-none}
 use Rattle.container_pages.proofs.numbers.header_number.Statement.{statement}
 use Rattle.container_pages.proofs.numbers.header_number.Tie as tie
 
@@ -9,7 +9,7 @@ cast-result : tie.Need-cast-result
 cast-result c = search needs
 
 cast-result-2 : tie.Need-cast-result-2
-cast-result-2 c = search used-fits
+cast-result-2 c = search header-fits
 
 add-result : tie.Need-add-result
 add-result c = search needs
@@ -24,7 +24,7 @@ cast-result-3 : tie.Need-cast-result-3
 cast-result-3 c = search size-fits
 
 cast-result-4 : tie.Need-cast-result-4
-cast-result-4 c = search last-fits
+cast-result-4 c = search header-fits
 
 returns : tie.Need-returns
 returns c = search needs

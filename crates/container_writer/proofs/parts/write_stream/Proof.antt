@@ -3,7 +3,7 @@
 use Prim.Native.Nat.{_-_}
 use borrow.Author.Needs.{needs}
 use lib.ListN.{length}
-use Rattle.container_writer.proofs.StreamLaws.{Stream-so-far, stream-none, stream-mul, stream-less, stream-in-run, stream-room, stream-more, stream-all}
+use Rattle.container_writer.proofs.StreamLaws.{Stream-so-far, stream-none, run-mul, stream-less, stream-in-run, stream-room, stream-more, stream-all}
 use Rattle.container_writer.proofs.parts.write_stream.Statement.{statement}
 use Rattle.container_writer.proofs.parts.write_stream.Tie as tie
 
@@ -20,7 +20,7 @@ pages-to-map-requires : tie.Need-pages-to-map-requires Inv-loop μ-loop
 pages-to-map-requires c κs = search needs
 
 mul-least : tie.Need-mul-least Inv-loop μ-loop
-mul-least c = search stream-mul
+mul-least c = search run-mul
 
 sub-least : tie.Need-sub-least Inv-loop μ-loop
 sub-least c = search needs
