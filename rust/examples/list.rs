@@ -9,55 +9,23 @@
 
 mod common;
 
+use common::streams::{self, in_words, Progress};
 use common::{arguments, read, shown, stop, words, FAILED};
 use std::fs::File;
 use std::io::{self, BufWriter, Write};
 use std::os::unix::io::AsFd;
-use std::time::{Duration, Instant};
 use trovespan::{Kind, Mapped, Refusal};
-
-// Refusals of the listing itself.
-const SHORT_DATA: u32 = 7;
-const OVER_LIMIT: u32 = 11;
-
-/// The most streams that are listed. PDB files number their streams with 16 bits, and 65,535 means none.
-const STREAM_LIMIT: u32 = 65_535;
-
-/// The time from one line of progress to the next.
-const PROGRESS_EVERY: Duration = Duration::from_secs(10);
-
-/// Where the directory's size is in the header.
-const DIRECTORY_SIZE: usize = 44;
 
 fn main() {
     let [path] = words(arguments(), "list FILE");
     let file = read("list", &path);
-    let streams = listable(&file);
+    let streams = streams::count(&file);
     if let Err(e) = write(&file, streams) {
         stop(FAILED, format!("list: standard output: {e}"));
     }
     if let Err(why) = streams {
         stop(FAILED, format!("list: {}: {}", shown(&path), in_words(why)));
     }
-}
-
-/// Returns the number of streams, if the directory holds all their sizes and they are not too many. So a made-up count
-/// is not believed.
-fn listable(file: &[u8]) -> Result<u32, Refusal> {
-    let streams = trovespan::stream_count(file)?;
-    if 4 + 4 * u64::from(streams) > u64::from(directory_size(file)) {
-        return Err(Refusal { number: SHORT_DATA, value: 0 });
-    }
-    if streams > STREAM_LIMIT {
-        return Err(Refusal { number: OVER_LIMIT, value: STREAM_LIMIT.into() });
-    }
-    Ok(streams)
-}
-
-/// Precondition: the streams of the file could be counted, so it has a whole header.
-fn directory_size(file: &[u8]) -> u32 {
-    let word = &file[DIRECTORY_SIZE..DIRECTORY_SIZE + 4];
-    u32::from_le_bytes([word[0], word[1], word[2], word[3]])
 }
 
 fn write(file: &[u8], streams: Result<u32, Refusal>) -> io::Result<()> {
@@ -74,7 +42,7 @@ fn write(file: &[u8], streams: Result<u32, Refusal>) -> io::Result<()> {
 /// that. The proved program opens the file once.
 fn write_lines(file: &[u8], streams: u32, out: &mut impl Write) -> io::Result<()> {
     let mut stores = Stores::default();
-    let mut progress = Progress::begin();
+    let mut progress = Progress::begin("list");
     writeln!(out, "streams {streams}")?;
     for stream in 0..streams {
         progress.show(stream, streams);
@@ -90,35 +58,6 @@ fn write_lines(file: &[u8], streams: u32, out: &mut impl Write) -> io::Result<()
 
 fn refused(why: Refusal) -> String {
     format!("refused {} {}", why.number, why.value)
-}
-
-/// The words of a refusal. The library does not know what the limit is of.
-fn in_words(why: Refusal) -> String {
-    match why.number {
-        OVER_LIMIT => format!("refused {OVER_LIMIT}: over {} streams, the limit of this program", why.value),
-        _ => why.to_string(),
-    }
-}
-
-/// Lines on standard error that say how far a listing is, if it takes long.
-struct Progress {
-    began: Instant,
-    next: Duration,
-}
-
-impl Progress {
-    fn begin() -> Self {
-        Progress { began: Instant::now(), next: PROGRESS_EVERY }
-    }
-
-    fn show(&mut self, done: u32, all: u32) {
-        let passed = self.began.elapsed();
-        if passed >= self.next {
-            // The listing does not depend on it.
-            let _ = writeln!(io::stderr(), "list: {done} of {all} streams, {} s", passed.as_secs());
-            self.next = passed + PROGRESS_EVERY;
-        }
-    }
 }
 
 /// Stores for a stream's slices, kept from stream to stream, so that few streams are mapped twice. No stream has over
