@@ -32,7 +32,7 @@
 //!     match kind {
 //!         UnrecognizedFileFormat | UnimplementedFeature | InvalidPageSize | PageReferenceOutOfRange => true,
 //!         StreamNotFound | FileEnds | ShortData | InvalidCompressedAnnotation | UnknownBinaryAnnotation => true,
-//!         NoRoom | OverLimit | BadRecord | RaggedList => true,
+//!         NoRoom | OverLimit | BadRecord | RaggedList | SizesDiffer | DirectoryTooLarge | Over32Bits => true,
 //!         Other(_) => false,
 //!     }
 //! }

@@ -69,6 +69,16 @@ mod c {
             out_len: usize,
             value: *mut u64,
         ) -> u32;
+        pub fn trovespan_write_container(
+            page_size: u32,
+            sizes: *const u32,
+            sizes_len: usize,
+            bytes: *const u8,
+            bytes_len: usize,
+            out: *mut u8,
+            out_len: usize,
+            value: *mut u64,
+        ) -> u32;
     }
 }
 
@@ -162,6 +172,25 @@ pub fn write_annotations(records: &[i64], out: &mut [u8]) -> (u32, u64) {
     // overlap; `value` is a local number.
     let number = unsafe {
         c::trovespan_write_annotations(records.as_ptr(), records.len(), out.as_mut_ptr(), out.len(), &mut value)
+    };
+    (number, value)
+}
+
+pub fn write_container(page_size: u32, sizes: &[u32], bytes: &[u8], out: &mut [u8]) -> (u32, u64) {
+    let mut value = 0;
+    // SAFETY: `sizes`, `bytes` and `out` are borrowed for the call, each with its own length, and `out` mutably, so it
+    // does not overlap the others; `value` is a local number.
+    let number = unsafe {
+        c::trovespan_write_container(
+            page_size,
+            sizes.as_ptr(),
+            sizes.len(),
+            bytes.as_ptr(),
+            bytes.len(),
+            out.as_mut_ptr(),
+            out.len(),
+            &mut value,
+        )
     };
     (number, value)
 }

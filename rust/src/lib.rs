@@ -1,9 +1,10 @@
-//! Reads the container of PDB files (MSF), and decodes and writes binary annotations, with a proved library.
+//! Reads and writes the container of PDB files (MSF) and binary annotations, with a proved library.
 //!
 //! - [`Container`] and [`Stream`] read a container, and allocate no more than the caller allows.
 //! - [`annotations`](annotations()) iterates over annotations.
 //! - Below these, [`open`], [`stream_count`], [`map`] and [`extract`] read a container into stores that the caller
-//!   lends, [`number`], [`step`] and [`decode`] read annotations as numbers, and [`write_annotations`] writes them.
+//!   lends, and [`number`], [`step`] and [`decode`] read annotations as numbers.
+//! - [`write_container`] and [`write_annotations`] write them, into stores that the caller lends.
 //!
 //! Every function returns for any input.
 //!
@@ -68,9 +69,12 @@
 //! | 11 | `OverLimit` | the limit | over a limit of the program `list`; no function here has one |
 //! | 20 | `BadRecord` | the record's index, from 0 | a record has an opcode or operand that cannot be written |
 //! | 21 | `RaggedList` | 0 | the length of a list of records is no multiple of 3 |
+//! | 22 | `SizesDiffer` | 0 | the sizes of the streams to be written do not sum to the number of their bytes |
+//! | 23 | `DirectoryTooLarge` | 0 | one page cannot hold the numbers of the pages of the directory to be written |
+//! | 24 | `Over32Bits` | 0 | the size of the directory to be written, or the number of pages, takes more than 32 bits |
 //!
 //! If several conditions hold, the first one met in reading decides. [`write_annotations`] judges in the order 21, 20,
-//! 10.
+//! 10, and [`write_container`] in the order 3, 22, 23, 24, 10.
 //!
 //! # Features
 //!
@@ -115,7 +119,7 @@ pub use extraction::{extract_to_vec, ExtractError, AT_MOST};
 pub use iter::{annotations, Annotations, PlacedAnnotation, PlacedRefusal};
 #[cfg(feature = "alloc")]
 pub use mapping::{map_to_vec, MapError, SourceSlice, AT_MOST_SLICES};
-pub use msf::{extract, map, open, slice_count, stream_count, stream_length, Mapped, Opened};
+pub use msf::{extract, map, open, slice_count, stream_count, stream_length, write_container, Mapped, Opened, ABSENT};
 pub use refusal::{Kind, Refusal};
 
 /// The examples of the readme, as tests.

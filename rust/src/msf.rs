@@ -76,6 +76,54 @@ pub fn extract(file: &[u8], stream: u32, limit: Option<usize>, out: &mut [u8]) -
     Ok(value as usize)
 }
 
+/// The size that stands for an absent stream in the list that [`write_container`] takes.
+pub const ABSENT: u32 = 0xffff_ffff;
+
+/// Writes a whole container to the front of `out`, and returns the length of the file. `sizes` has the size of each
+/// stream, or [`ABSENT`]. `bytes` has the bytes of the streams, one after the other.
+///
+/// Reading a stream of the file gives its bytes. A stream of size 0 is there and empty; an absent one is refused with 5.
+///
+/// The file consists of whole pages, and has at least 4,096 bytes. Page 0 is the header. Pages whose number modulo
+/// `page_size` is 1 or 2 are free-map pages. The others are, in this order, the pages of the streams, of the directory,
+/// and the one page that lists the directory's pages. If pages are added to get to 4,096 bytes, these, and no others,
+/// are marked as free. What a part leaves of its last page is 0.
+///
+/// # Errors
+///
+/// Refuses with 3 if `page_size` is not a power of two from 0x100 to 0x800000; else with 22 if the sizes, without those
+/// of absent streams, do not sum to the length of `bytes`; else with 23 if one page cannot hold the numbers of the
+/// directory's pages; else with 24 if the directory's size or the number of pages takes more than 32 bits; else with 10
+/// and the length of the file if `out` is shorter. A refusal leaves `out` unchanged.
+///
+/// ```
+/// use trovespan::{extract, open, stream_count, write_container, Refusal, ABSENT};
+///
+/// let sizes = [5, ABSENT, 0, 6];
+/// let mut file = [0; 4096];
+/// assert_eq!(write_container(256, &sizes, b"hello, you!", &mut file), Ok(4096));
+///
+/// let mut out = [0; 6];
+/// assert_eq!(open(&file)?.page_size, 256);
+/// assert_eq!(stream_count(&file), Ok(4));
+/// assert_eq!(extract(&file, 0, None, &mut out), Ok(5));
+/// assert_eq!(&out[..5], b"hello");
+/// assert_eq!(extract(&file, 1, None, &mut out), Err(Refusal { number: 5, value: 1 }));
+/// assert_eq!(extract(&file, 2, None, &mut out), Ok(0));
+/// assert_eq!(extract(&file, 3, None, &mut out), Ok(6));
+/// assert_eq!(&out, b", you!");
+///
+/// // An empty `out` asks for the length.
+/// let length = write_container(4096, &sizes, b"hello, you!", &mut []);
+/// assert_eq!(length, Err(Refusal { number: 10, value: 7 * 4096 }));
+/// # Ok::<(), Refusal>(())
+/// ```
+pub fn write_container(page_size: u32, sizes: &[u32], bytes: &[u8], out: &mut [u8]) -> Result<usize, Refusal> {
+    let (number, value) = ffi::write_container(page_size, sizes, bytes, out);
+    Refusal::judge(number, value)?;
+    Ok(value as usize)
+}
+
 /// Returns the number of bytes that extraction of a whole stream needs. Allocates nothing.
 ///
 /// A stream may be far longer than its file. Compare the length with a limit before allocating, as

@@ -42,6 +42,12 @@ pub enum Kind {
     BadRecord,
     /// 21: a list of records ends within a record.
     RaggedList,
+    /// 22: the sizes of streams do not sum to the number of their bytes.
+    SizesDiffer,
+    /// 23: one page cannot hold the numbers of the directory's pages.
+    DirectoryTooLarge,
+    /// 24: the directory's size, or the number of pages, takes more than 32 bits.
+    Over32Bits,
     /// A number that has no name here.
     Other(u32),
 }
@@ -72,6 +78,9 @@ impl Refusal {
             11 => Kind::OverLimit,
             20 => Kind::BadRecord,
             21 => Kind::RaggedList,
+            22 => Kind::SizesDiffer,
+            23 => Kind::DirectoryTooLarge,
+            24 => Kind::Over32Bits,
             other => Kind::Other(other),
         }
     }
@@ -117,6 +126,9 @@ impl Display for Refusal {
             Kind::OverLimit => write!(f, "over the limit of a listing, {value}"),
             Kind::BadRecord => write!(f, "record {value}, counted from 0, cannot be written as an annotation"),
             Kind::RaggedList => write!(f, "the list ends within a record"),
+            Kind::SizesDiffer => write!(f, "the sizes do not sum to the number of bytes"),
+            Kind::DirectoryTooLarge => write!(f, "the directory has more pages than one page can number"),
+            Kind::Over32Bits => write!(f, "the directory's size or the number of pages takes more than 32 bits"),
             Kind::Other(_) => write!(f, "a reason that has no name here, with value {value}"),
         }
     }

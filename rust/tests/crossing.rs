@@ -9,8 +9,8 @@ mod fields;
 
 use fields::{map_counts, opened, stepped, Found};
 use trovespan::{
-    annotations, decode, extract, number, slice_count, stream_count, stream_length, write_annotations, DecodeRefusal,
-    Refusal,
+    annotations, decode, extract, number, slice_count, stream_count, stream_length, write_annotations, write_container,
+    DecodeRefusal, Refusal,
 };
 
 const VALUE: u64 = 0xfedc_ba98_7654_3210;
@@ -108,6 +108,21 @@ unsafe extern "C" fn trovespan_write_annotations(
     *records as u32
 }
 
+#[no_mangle]
+unsafe extern "C" fn trovespan_write_container(
+    page_size: u32,
+    sizes: *const u32,
+    _: usize,
+    _: *const u8,
+    _: usize,
+    _: *mut u8,
+    _: usize,
+    value: *mut u64,
+) -> u32 {
+    *value = if page_size == 0 { VALUE } else { page_size.into() };
+    *sizes
+}
+
 fn refusal(number: u32) -> Refusal {
     Refusal { number, value: VALUE }
 }
@@ -189,9 +204,20 @@ fn decoding() {
 }
 
 #[test]
-fn writing() {
+fn writing_annotations() {
     assert_eq!(write_annotations(&[0], &mut []), Ok(VALUE as usize));
     for number in [10, 20, 21] {
         assert_eq!(write_annotations(&[number], &mut []), Err(refusal(number as u32)));
+    }
+}
+
+#[test]
+fn writing_containers() {
+    assert_eq!(write_container(0, &[0], &[], &mut []), Ok(VALUE as usize));
+    for page_size in [1, 1 << 16, OTHER as u32, u32::MAX] {
+        assert_eq!(write_container(page_size, &[0], &[], &mut []), Ok(page_size as usize));
+    }
+    for number in [3, 10, 22, 23, 24] {
+        assert_eq!(write_container(0, &[number], &[], &mut []), Err(refusal(number)));
     }
 }

@@ -7,7 +7,7 @@ mod zeros;
 
 use fields::{map_counts, opened, stepped, Found};
 use files::*;
-use trovespan::{decode, extract, number, stream_count, DecodeRefusal, Refusal};
+use trovespan::{decode, extract, number, stream_count, write_container, DecodeRefusal, Refusal};
 use zeros::zeros;
 
 /// The first numbers that take 17 and 33 bits.
@@ -67,6 +67,38 @@ fn strings_over_4_gib() {
     let mut store = [0; 3];
     assert_eq!(decode(bytes, &mut store), Ok(1));
     assert_eq!(store, [3, 5, 0]);
+}
+
+#[test]
+fn files_written_into_over_4_gib() {
+    let out = zeros::<u8>(BITS_33 + 1);
+    assert_eq!(write_container(256, &[3, ABSENT, 2], b"hello", out), Ok(4096));
+    let mut stream = [0; 2];
+    assert_eq!(extract(&out[..4096], 2, None, &mut stream), Ok(2));
+    assert_eq!(&stream, b"lo");
+    assert_eq!(out[4096..5000], [0; 904]);
+}
+
+/// The bytes of two streams, of which the first is the largest possible. The file has 65,548 pages of 64 KiB.
+#[test]
+fn files_written_from_over_4_gib() {
+    let bytes = zeros::<u8>(BITS_33 + 100);
+    let sizes = [ABSENT - 1, 102];
+    let no_room = Refusal { number: 10, value: 65_548 << 16 };
+    assert_eq!(write_container(1 << 16, &sizes, bytes, &mut []), Err(no_room));
+    let sizes_differ = Refusal { number: 22, value: 0 };
+    for sizes in [[ABSENT - 1, 101], [ABSENT - 1, 103], [98, 2]] {
+        assert_eq!(write_container(1 << 16, &sizes, bytes, &mut []), Err(sizes_differ));
+    }
+}
+
+/// A directory of the count and 2^30 - 2 sizes is the largest whose size takes 32 bits.
+#[test]
+fn directories_over_4_gib() {
+    let sizes = zeros::<u32>((1 << 30) - 1);
+    let no_room = Refusal { number: 10, value: (3 + 16_384 + 1) << 18 };
+    assert_eq!(write_container(1 << 18, &sizes[1..], &[], &mut []), Err(no_room));
+    assert_eq!(write_container(1 << 18, sizes, &[], &mut []), Err(Refusal { number: 24, value: 0 }));
 }
 
 #[test]

@@ -3,7 +3,7 @@
 use trovespan::{DecodeRefusal, Kind, Refusal};
 
 /// Each number and its name. 12 stands for those that have none.
-const NAMES: [(u32, &str); 14] = [
+const NAMES: [(u32, &str); 17] = [
     (1, "UnrecognizedFileFormat"),
     (2, "UnimplementedFeature"),
     (3, "InvalidPageSize"),
@@ -18,6 +18,9 @@ const NAMES: [(u32, &str); 14] = [
     (12, "Other(12)"),
     (20, "BadRecord"),
     (21, "RaggedList"),
+    (22, "SizesDiffer"),
+    (23, "DirectoryTooLarge"),
+    (24, "Over32Bits"),
 ];
 
 fn said(number: u32) -> String {
@@ -51,7 +54,7 @@ fn each_number_has_its_name() {
     for (number, name) in NAMES {
         assert_eq!(format!("{:?}", Refusal { number, value: 0 }.kind()), name);
     }
-    for number in [0, 12, 19, 22, u32::MAX] {
+    for number in [0, 12, 19, 25, u32::MAX] {
         assert_eq!(Refusal { number, value: 0 }.kind(), Kind::Other(number));
     }
 }

@@ -16,6 +16,7 @@ const FAILED: usize = usize::MAX;
 /// The entries of stores and inputs. Zero bytes are a valid value of each.
 pub trait Number {}
 impl Number for u8 {}
+impl Number for u32 {}
 impl Number for u64 {}
 impl Number for i64 {}
 
