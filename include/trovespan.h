@@ -1,5 +1,5 @@
 /*
- * trovespan.h: reads the container of PDB files (MSF), and reads and writes binary annotations, with a proved library.
+ * trovespan.h: reads and writes the container of PDB files (MSF) and binary annotations, with a proved library.
  *
  * Link with libtrovespan.a, which `rt staticlib trovespan` makes in target/staticlib. It is code for x86-64 Linux. It needs
  * no other library, allocates nothing, and keeps no pointer and no state, so any number of threads may call it.
@@ -17,7 +17,7 @@
  * - Memory for as many entries as a length says is there. An input can be read; a store, and a number of the answer, can be
  *   read and written. With length 0 nothing is read or written, and the pointer may be null.
  * - Inputs, stores and numbers are aligned for their type.
- * - A store or number overlaps no other store or number, nor the input.
+ * - A store or number overlaps no other store or number, nor an input.
  * - Lent bytes do not change during the call, except by the call itself. The functions judge the input first and then write
  *   without checking again, so if the input changes in between, they may write past a store. A mapping of a file that another
  *   process writes breaks this, even with MAP_PRIVATE: read the file, or map a private copy, which nobody else writes.
@@ -38,7 +38,7 @@ extern "C" {
 
 /*
  * Why a function refuses. If several conditions hold, the first one met in reading decides. trovespan_write_annotations
- * judges in the order 21, 20, 10.
+ * judges in the order 21, 20, 10, and trovespan_write_container in the order 3, 22, 23, 24, 10.
  */
 enum {
     /* Value 0. The file has fewer than 4,096 bytes, or does not begin with the magic of a PDB file. */
@@ -64,8 +64,17 @@ enum {
     /* The record's index, from 0. A record has an opcode or operand that cannot be written. */
     TROVESPAN_BAD_RECORD = 20,
     /* Value 0. The length of a list of records is no multiple of 3. */
-    TROVESPAN_RAGGED_LIST = 21
+    TROVESPAN_RAGGED_LIST = 21,
+    /* Value 0. The sizes of the streams to be written do not sum to the number of their bytes. */
+    TROVESPAN_SIZES_DIFFER = 22,
+    /* Value 0. One page cannot hold the numbers of the pages of the directory to be written. */
+    TROVESPAN_DIRECTORY_TOO_LARGE = 23,
+    /* Value 0. The size of the directory to be written, or the number of pages, takes more than 32 bits. */
+    TROVESPAN_OVER_32_BITS = 24
 };
+
+/* The size that stands for an absent stream in the list that trovespan_write_container takes. */
+#define TROVESPAN_ABSENT UINT32_C(0xffffffff)
 
 /* Opens a container. `value` is the page size, `used` the number of pages used. Refuses with 1, 2, 3, 4 or 7. */
 uint32_t trovespan_open(const uint8_t *file, size_t file_len, uint64_t *value, uint64_t *used);
@@ -135,6 +144,23 @@ uint32_t trovespan_decode(const uint8_t *bytes, size_t bytes_len, int64_t *store
  */
 uint32_t trovespan_write_annotations(const int64_t *records, size_t records_len, uint8_t *out, size_t out_len,
                                      uint64_t *value);
+
+/*
+ * Writes a whole container to the front of `out`. `sizes` has the size of each stream, or TROVESPAN_ABSENT; `bytes` has the
+ * bytes of the streams, one after the other. `value` is the length of the file. Reading a stream of the file gives its bytes;
+ * an absent one is refused with 5, and one of size 0 is there and empty.
+ *
+ * The file consists of whole pages, and has at least 4,096 bytes. Page 0 is the header. Pages whose number modulo `page_size`
+ * is 1 or 2 are free-map pages. The others are, in this order, the pages of the streams, of the directory, and the one page
+ * that lists the directory's pages. If pages are added to get to 4,096 bytes, these, and no others, are marked as free. What
+ * a part leaves of its last page is 0.
+ *
+ * Refuses with 3 for a page size that is none; else with 22 if the sizes, without those of absent streams, do not sum to
+ * `bytes_len`; else with 23 if one page cannot hold the numbers of the directory's pages; else with 24 if the size of the
+ * directory or the number of pages takes more than 32 bits; else with 10 if `out` is too short.
+ */
+uint32_t trovespan_write_container(uint32_t page_size, const uint32_t *sizes, size_t sizes_len, const uint8_t *bytes,
+                                   size_t bytes_len, uint8_t *out, size_t out_len, uint64_t *value);
 
 #ifdef __cplusplus
 }

@@ -23,9 +23,19 @@ static uint8_t file[6144];
 /* What the stores and numbers hold before a call. */
 #define UNTOUCHED 0x55
 
+/* Byte `i` of little-endian words. */
+static uint8_t byte_of(const uint32_t *words, size_t i) { return (uint8_t)(words[i / 4] >> 8 * (i % 4)); }
+
 static void put(size_t at, const uint32_t *words, size_t count) {
     for (size_t i = 0; i < 4 * count; i++)
-        file[at + i] = (uint8_t)(words[i / 4] >> 8 * (i % 4));
+        file[at + i] = byte_of(words, i);
+}
+
+static bool are(const uint8_t *bytes, const uint32_t *words, size_t count) {
+    for (size_t i = 0; i < 4 * count; i++)
+        if (bytes[i] != byte_of(words, i))
+            return false;
+    return true;
 }
 
 static void make_f(void) {
@@ -150,6 +160,35 @@ static void write_annotations(void) {
     CHECK(memcmp(store, records, sizeof records) == 0);
 }
 
+static void write_container(void) {
+    static const uint32_t sizes[] = {5, TROVESPAN_ABSENT, 0, 6};
+    static const uint32_t none[4096] = {0};
+    static const uint8_t bytes[] = "hello, you!";
+    static const uint32_t header[] = {256, 1, 16, 28, 0, 6};
+    static const uint32_t directory[] = {4, 5, TROVESPAN_ABSENT, 0, 6, 3, 4};
+    uint8_t out[4097], stream[6];
+    uint64_t value = 77, used = 77;
+    memset(out, UNTOUCHED, sizeof out);
+    CHECK(trovespan_write_container(384, sizes, 4, bytes, 10, out, 4097, &value) == TROVESPAN_INVALID_PAGE_SIZE);
+    CHECK(value == 384);
+    CHECK(trovespan_write_container(256, sizes, 4, bytes, 10, out, 4097, &value) == TROVESPAN_SIZES_DIFFER && value == 0);
+    CHECK(trovespan_write_container(256, sizes, 4, bytes, 12, out, 4097, &value) == TROVESPAN_SIZES_DIFFER && value == 0);
+    CHECK(trovespan_write_container(256, none, 4096, NULL, 0, out, 0, &value) == TROVESPAN_DIRECTORY_TOO_LARGE && value == 0);
+    CHECK(trovespan_write_container(256, sizes, 4, bytes, 11, out, 4095, &value) == TROVESPAN_NO_ROOM && value == 4096);
+    CHECK(trovespan_write_container(4096, NULL, 0, NULL, 0, NULL, 0, &value) == TROVESPAN_NO_ROOM && value == 20480);
+    CHECK(untouched(out, sizeof out));
+    CHECK(trovespan_write_container(256, sizes, 4, bytes, 11, out, 4097, &value) == 0 && value == 4096);
+    CHECK(memcmp(out, file, 32) == 0 && are(out + 32, header, 6) && out[256] == 0x80 && out[257] == 0xff);
+    CHECK(memcmp(out + 768, bytes, 5) == 0 && memcmp(out + 1024, bytes + 5, 6) == 0 && are(out + 1280, directory, 7));
+    CHECK(untouched(out + 4096, 1));
+    CHECK(trovespan_open(out, 4096, &value, &used) == 0 && value == 256 && used == 16);
+    CHECK(trovespan_stream_count(out, 4096, &value) == 0 && value == 4);
+    CHECK(trovespan_extract(out, 4096, 3, false, 0, stream, 6, &value) == 0 && value == 6);
+    CHECK(memcmp(stream, bytes + 5, 6) == 0);
+    CHECK(trovespan_extract(out, 4096, 1, false, 0, stream, 6, &value) == TROVESPAN_STREAM_NOT_FOUND && value == 1);
+    CHECK(trovespan_extract(out, 4096, 2, false, 0, NULL, 0, &value) == 0 && value == 0);
+}
+
 int main(void) {
     make_f();
     open_and_count();
@@ -158,6 +197,7 @@ int main(void) {
     annotations();
     decode();
     write_annotations();
+    write_container();
     printf("%d\n", checks);
     return failed > 0;
 }
