@@ -8,7 +8,8 @@
 //! These are about binary annotations. record-msf, live-msf, show-msf and alter-msf are about
 //! containers: COUNT is the number of random containers, with several questions about each. The same
 //! words with -buffer are about the reads of a parse buffer, those with -writer about writing
-//! annotations: COUNT is the number of random lists of annotations.
+//! annotations: COUNT is the number of random lists of annotations. Those with -pack are about writing
+//! containers: COUNT is the number of random containers.
 //!
 //!     oracle isolation-msf SEED COUNT  COUNT pairs of containers that agree on what a stream's
 //!                                      answers depend on, for which pdb must answer the same
@@ -18,10 +19,10 @@
 //! With the feature `ours` our library is asked too, through the crate `trovespan`:
 //!
 //!     oracle compare SUBJECT SEED COUNT  compares our answers with pdb's on the questions of that live
-//!                                        list. SUBJECT is annotations, msf, isolation or writer
+//!                                        list. SUBJECT is annotations, msf, isolation, writer or pack
 //!     oracle compare SUBJECT             the same on the fixed list, which isolation does not have
-//!     oracle compare SUBJECT large       the same on strings, files or lists of annotations that are
-//!                                        too large for a list of questions: their places,
+//!     oracle compare SUBJECT large       the same on strings, files, lists of annotations or streams
+//!                                        that are too large for a list of questions: their places,
 //!                                        counts and sizes exceed 16, 24 and 32 bits
 //!     oracle compare-altered N ..        the same, with our answer to record N made wrong
 //!     oracle bench                       measures both (`bench/run`)
@@ -61,16 +62,17 @@ mod buffer;
 mod compare;
 mod container;
 mod digest;
+mod pack;
 mod random;
 mod records;
 mod writer;
 
 const USAGE: &str = "usage: oracle record | live SEED COUNT | show N | alter N, \
-                     or the same with -msf, -buffer or -writer after the first word, \
+                     or the same with -msf, -buffer, -writer or -pack after the first word, \
                      or isolation-msf SEED COUNT | file-msf NAME | listing-msf, \
                      or with the feature ours compare SUBJECT [large | SEED COUNT] \
                      | compare-altered N SUBJECT [large | SEED COUNT] | bench, \
-                     where SUBJECT is annotations, msf, isolation or writer";
+                     where SUBJECT is annotations, msf, isolation, writer or pack";
 
 fn main() {
     let words: Vec<String> = std::env::args().skip(1).collect();
@@ -120,6 +122,10 @@ fn answer(words: &[&str], out: &mut impl Write) -> io::Result<()> {
         ["alter-writer", n] => {
             out.write_all(&writer::LAYOUT.altered(&read(), number(n) as usize))?
         }
+        ["record-pack"] => pack::write(pack::fixed(), out)?,
+        ["live-pack", seed, count] => pack::write(pack::live(number(seed), number(count)), out)?,
+        ["show-pack", n] => out.write_all(pack::show(&read(), number(n) as usize).as_bytes())?,
+        ["alter-pack", n] => out.write_all(&pack::LAYOUT.altered(&read(), number(n) as usize))?,
         #[cfg(feature = "ours")]
         ["compare", ref asked @ ..] => compare(asked, None, out)?,
         #[cfg(feature = "ours")]
@@ -157,6 +163,11 @@ fn compare(asked: &[&str], altered: Option<usize>, out: &mut impl Write) -> io::
         ["writer", "large"] => writer::compare(writer::large(), &mut comparison),
         ["writer", seed, count] => {
             writer::compare(writer::live(number(seed), number(count)), &mut comparison)
+        }
+        ["pack"] => pack::compare(pack::fixed(), &mut comparison),
+        ["pack", "large"] => pack::compare(pack::large(), &mut comparison),
+        ["pack", seed, count] => {
+            pack::compare(pack::live(number(seed), number(count)), &mut comparison)
         }
         _ => stop(USAGE),
     }

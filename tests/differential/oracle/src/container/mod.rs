@@ -30,10 +30,14 @@ mod source;
 mod steps;
 mod tally;
 
+pub use answers::{Library, Refusal};
 #[cfg(feature = "ours")]
 pub use compare::compare;
+pub use files::{
+    need, put_word, ABSENT, BIG_MAGIC, DIRECTORY_SIZE, ENTRIES, HEADER_BLOCK, PAGES_USED, PAGE_SIZE,
+};
 #[cfg(feature = "ours")]
-pub use files::{need, stream, Container};
+pub use files::{stream, Container};
 pub use fixed::fixed;
 #[cfg(feature = "ours")]
 pub use isolation::judged as judged_pairs;
@@ -44,4 +48,7 @@ pub use list::{altered, write};
 pub use listing::whole as listed;
 pub use listings::named;
 pub use live::live;
+#[cfg(feature = "ours")]
+pub use ours::Ours;
+pub use pdb::Wanted;
 pub use show::record as show;
