@@ -1,5 +1,5 @@
 //! Measures ours, through the crate `trovespan`, and pdb's own code, on the same inputs in one process.
-//! What pdb cannot do is measured alone. This is built into the oracle of `tests/differential`, which has
+//! What pdb cannot do is measured alone, or beside a plain copy. This is built into the oracle of `tests/differential`, which has
 //! pdb's code; `bench/run` builds and runs it.
 //!
 //! Time is the processor time of the thread. Both have the file in memory. Ours answers into lent stores,
@@ -17,7 +17,7 @@ use cases::{cases, Case};
 use timing::{measure, Call, Runs, Stores, REFUSED, RUNS};
 
 const HEAD: &str =
-    "# X and Y are the processor time of a call, or million bytes of the stream or of \
+    "# X and Y are the processor time of a call, or million bytes of the streams or of \
                     the annotations per second of it; R is how many times as fast ours is";
 
 pub fn run(out: &mut impl Write) -> io::Result<()> {
@@ -41,17 +41,18 @@ pub fn run(out: &mut impl Write) -> io::Result<()> {
 /// The runs of ours, and of theirs if there is one. Checks by the calls' figures that both did the same.
 fn both(case: &Case, stores: &mut Stores) -> (Runs, Option<Runs>) {
     let ours = (case.ours)(stores);
-    let theirs = case.theirs.as_ref().map(|theirs| theirs(stores));
+    let theirs = case.beside.call().map(|theirs| theirs(stores));
     if ours == REFUSED || theirs.unwrap_or(ours) != ours {
         let figures = (ours, theirs);
         crate::stop(&format!("bench: {} answers {:?}", case.name, figures));
     }
-    let calls: Vec<&Call> = once(&*case.ours).chain(case.theirs.as_deref()).collect();
+    let calls: Vec<&Call> = once(&*case.ours).chain(case.beside.call()).collect();
     let mut runs = measure(&calls, stores).into_iter();
     (runs.next().expect("ours is measured"), runs.next())
 }
 
-/// Writes `NAME ratio R (ours X, theirs Y)`, or `NAME ours X` if there is no other side.
+/// Writes `NAME ratio R (ours X, theirs Y)`, with `a copy` for `theirs` if it is one, or `NAME ours X` if there
+/// is no other side.
 fn write_speed(
     out: &mut impl Write,
     case: &Case,
@@ -67,9 +68,10 @@ fn write_speed(
     match theirs {
         Some(theirs) => writeln!(
             out,
-            "ratio {:.3} (ours {}, theirs {})",
+            "ratio {:.3} (ours {}, {} {})",
             theirs / ours,
             shown(ours),
+            case.beside.name(),
             shown(theirs)
         ),
         None => writeln!(out, "ours {}", shown(ours)),

@@ -7,7 +7,7 @@ use std::rc::Rc;
 use trovespan::{Step, ENTRIES_EACH};
 
 use super::inputs::{
-    annotations, in_long_slices, in_single_pages, of_streams, records, LONGEST_STREAM,
+    annotations, in_long_slices, in_single_pages, of_streams, records, streams, LONGEST_STREAM,
     MOST_ANNOTATIONS, PAGE,
 };
 use super::timing::{Call, Stores, REFUSED};
@@ -22,8 +22,32 @@ pub struct Case {
     /// The number of bytes a call processes, if throughput is measured.
     pub bytes: Option<usize>,
     pub ours: Box<Call>,
-    /// `None` if pdb has nothing that does this.
-    pub theirs: Option<Box<Call>>,
+    pub beside: Beside,
+}
+
+/// What ours is measured beside.
+pub enum Beside {
+    Pdb(Box<Call>),
+    /// pdb has nothing that does this, but memory has a speed.
+    Copy(Box<Call>),
+    /// pdb has nothing that does this.
+    Nothing,
+}
+
+impl Beside {
+    pub fn call(&self) -> Option<&Call> {
+        match self {
+            Beside::Pdb(call) | Beside::Copy(call) => Some(call),
+            Beside::Nothing => None,
+        }
+    }
+
+    pub fn name(&self) -> &'static str {
+        match self {
+            Beside::Copy(_) => "a copy",
+            _ => "theirs",
+        }
+    }
 }
 
 /// The cases, with `halves` halves of the work. Opening is the first.
@@ -47,6 +71,7 @@ pub fn cases(halves: usize) -> Vec<Case> {
         steps(annotations),
         decoding(annotations),
         writing(annotations),
+        packing(length),
     ]
 }
 
@@ -56,7 +81,7 @@ fn opening(file: &'static [u8]) -> Case {
         name: "open",
         bytes: None,
         ours: Box::new(move |_| trovespan::open(file).is_ok().into()),
-        theirs: Some(Box::new(move |_| opened(file).is_some().into())),
+        beside: Beside::Pdb(Box::new(move |_| opened(file).is_some().into())),
     }
 }
 
@@ -76,7 +101,7 @@ fn mapping(name: &'static str, file: &'static [u8], stream: u32) -> Case {
             let mapped = trovespan::map(file, stream, None, &mut stores.offsets, &mut stores.sizes);
             mapped.map_or(REFUSED, |mapped| (mapped.slices + mapped.length) as u64)
         }),
-        theirs: Some(Box::new(move |_| {
+        beside: Beside::Pdb(Box::new(move |_| {
             let slices = Rc::default();
             let source = Unread {
                 file: Cursor::new(file),
@@ -101,7 +126,7 @@ fn extraction(file: &'static [u8], length: usize) -> Case {
             let extracted = trovespan::extract(file, 0, None, &mut stores.bytes);
             extracted.map_or(REFUSED, |length| figure(&stores.bytes[..length]))
         }),
-        theirs: Some(Box::new(move |_| read_by_pdb(file, None))),
+        beside: Beside::Pdb(Box::new(move |_| read_by_pdb(file, None))),
     }
 }
 
@@ -112,7 +137,7 @@ fn fresh_extraction(file: &'static [u8], length: usize) -> Case {
         name: "extract-fresh",
         bytes: Some(length),
         ours: Box::new(move |_| fresh(file).map_or(REFUSED, |stream| figure(&stream))),
-        theirs: Some(Box::new(move |_| read_by_pdb(file, None))),
+        beside: Beside::Pdb(Box::new(move |_| read_by_pdb(file, None))),
     }
 }
 
@@ -125,7 +150,7 @@ fn first_page(file: &'static [u8]) -> Case {
             let extracted = trovespan::extract(file, 0, Some(PAGE), &mut stores.bytes);
             extracted.map_or(REFUSED, |length| figure(&stores.bytes[..length]))
         }),
-        theirs: Some(Box::new(move |_| read_by_pdb(file, Some(PAGE)))),
+        beside: Beside::Pdb(Box::new(move |_| read_by_pdb(file, Some(PAGE)))),
     }
 }
 
@@ -158,7 +183,7 @@ fn all_streams(file: &'static [u8], count: u32) -> Case {
             };
             (0..count).map(extracted).sum()
         }),
-        theirs: Some(Box::new(move |_| {
+        beside: Beside::Pdb(Box::new(move |_| {
             open_msf(Cursor::new(file)).map_or(REFUSED, |mut msf| {
                 let read = |stream| msf.get(stream, None).map_or(REFUSED, |got| figure(&got));
                 (0..count).map(read).sum()
@@ -187,7 +212,7 @@ fn steps(bytes: &'static [u8]) -> Case {
             }
             sum as u64
         }),
-        theirs: Some(Box::new(move |_| {
+        beside: Beside::Pdb(Box::new(move |_| {
             let mut sum = 0;
             let mut iter = BinaryAnnotations::new(bytes).iter();
             while let Ok(Some(annotation)) = iter.next() {
@@ -220,7 +245,7 @@ fn decoding(bytes: &'static [u8]) -> Case {
         ours: Box::new(move |stores| {
             trovespan::decode(bytes, &mut stores.entries).map_or(REFUSED, |count| count as u64)
         }),
-        theirs: Some(Box::new(move |stores| written(bytes, stores))),
+        beside: Beside::Pdb(Box::new(move |stores| written(bytes, stores))),
     }
 }
 
@@ -246,7 +271,25 @@ fn writing(bytes: &'static [u8]) -> Case {
         ours: Box::new(move |stores| {
             write(&mut stores.bytes).map_or(REFUSED, |length| length as u64)
         }),
-        theirs: None,
+        beside: Beside::Nothing,
+    }
+}
+
+/// The bytes of streams of 1 MiB, as a whole file in a lent store. pdb writes no containers. Beside it is a copy of the
+/// same bytes to the front of the same store.
+fn packing(length: usize) -> Case {
+    let (sizes, bytes) = streams(length);
+    Case {
+        name: "pack",
+        bytes: Some(length),
+        ours: Box::new(move |stores| {
+            let written = trovespan::write_container(PAGE as u32, &sizes, bytes, &mut stores.bytes);
+            written.map_or(REFUSED, |_| length as u64)
+        }),
+        beside: Beside::Copy(Box::new(move |stores| {
+            stores.bytes[..length].copy_from_slice(bytes);
+            length as u64
+        })),
     }
 }
 

@@ -1,5 +1,5 @@
-//! The inputs: containers of 4,096-byte pages, and annotations, as bytes and as records. They are the same at
-//! each run, and stay in memory until the program ends, since a view for pdb may not borrow from anything that
+//! The inputs: containers of 4,096-byte pages, streams to be written as one, and annotations, as bytes and as
+//! records. They are the same at each run, and stay in memory until the program ends, since a view for pdb may not borrow from anything that
 //! ends earlier.
 
 use trovespan::ENTRIES_EACH;
@@ -9,6 +9,8 @@ use crate::random::Random;
 
 pub const PAGE: usize = 4096;
 pub const LONGEST_STREAM: usize = 32 << 20;
+/// Enough for a file with so many bytes of streams: header, maps, directory and location page take less.
+pub const LONGEST_FILE: usize = LONGEST_STREAM + (1 << 20);
 /// In 1 MiB, since an annotation takes at least two bytes.
 pub const MOST_ANNOTATIONS: usize = (1 << 20) / 2;
 
@@ -32,6 +34,15 @@ pub fn in_single_pages(size: usize) -> &'static [u8] {
 /// A container of `count` streams, of two pages each.
 pub fn of_streams(count: usize) -> &'static [u8] {
     container(&vec![PAGE + PAGE / 2; count], |i, _| i)
+}
+
+/// Streams of 1 MiB, of `length` bytes in all: their sizes and their bytes.
+pub fn streams(length: usize) -> (Vec<u32>, &'static [u8]) {
+    const SIZE: usize = LONG as usize * PAGE;
+    let mut random = Random::new(SEED);
+    let bytes: Vec<u8> = (0..length).map(|_| random.byte()).collect();
+    let sizes = vec![SIZE as u32; length / SIZE];
+    (sizes, Box::leak(bytes.into_boxed_slice()))
 }
 
 /// A container with streams of these sizes. Their pages follow those of the directory. `order` gives the

@@ -2,7 +2,7 @@
 
 use trovespan::ENTRIES_EACH;
 
-use super::inputs::{LONGEST_STREAM, MOST_ANNOTATIONS, PAGE};
+use super::inputs::{LONGEST_FILE, LONGEST_STREAM, MOST_ANNOTATIONS, PAGE};
 
 pub const RUNS: usize = 9;
 
@@ -29,7 +29,7 @@ impl Stores {
         Stores {
             offsets: vec![0; LONGEST_STREAM / PAGE],
             sizes: vec![0; LONGEST_STREAM / PAGE],
-            bytes: vec![0; LONGEST_STREAM],
+            bytes: vec![0; LONGEST_FILE],
             entries: vec![0; ENTRIES_EACH * MOST_ANNOTATIONS],
         }
     }
