@@ -8,7 +8,7 @@ use crate::container::ABSENT;
 use crate::random::Random;
 
 const SEED: u64 = 0x6c61_7270;
-const RANDOM: usize = 100;
+const RANDOM: usize = 40;
 
 /// The most bytes of a random container's streams.
 const LARGEST: usize = 1 << 20;
@@ -38,21 +38,23 @@ fn ask_large_pages(questions: &mut Vec<Question>) {
 /// Streams, directories and location pages around map pages, and past the pages from which on the bits are in another
 /// page: the 2,048th of 256 bytes, the 4,096th of 512 bytes. The last two streams have more than 2^24 bytes.
 fn ask_map_pages(questions: &mut Vec<Question>) {
-    let around = |p: u32| p - 20..=p + 4;
-    let small = around(0x200)
-        .chain(around(0x800))
-        .map(|pages| (0x100, pages));
-    let other = vec![0x200, 0x1000].into_iter().flat_map(around);
-    let pages = small
-        .chain(other.map(|pages| (0x200, pages)))
-        .chain(around(0x400).map(|pages| (0x400, pages)));
-    for (p, pages) in pages {
-        questions.push(just_enough(Question::new(p, vec![5, pages * p])));
+    for &(p, map) in &[
+        (0x100, 0x200),
+        (0x100, 0x800),
+        (0x200, 0x200),
+        (0x400, 0x400),
+    ] {
+        for pages in map - 16..map {
+            questions.push(just_enough(Question::new(p, vec![5, pages * p])));
+        }
     }
-    questions.push(just_enough(Question::new(0x400, vec![8_200 * 0x400, 5])));
-    questions.push(just_enough(Question::new(0x1000, vec![BITS_25 + 5, 3])));
-    let sizes = vec![3, ABSENT, BITS_25 + 0x5000, 0x1001];
-    questions.push(just_enough(Question::new(0x1000, sizes)));
+    for &(p, pages) in &[(0x100, 2_100), (0x200, 4_200), (0x400, 8_300)] {
+        questions.push(just_enough(Question::new(p, vec![pages * p, 5])));
+    }
+    for &size in &[BITS_25 + 5, BITS_25 + 0x5000] {
+        let sizes = vec![3, ABSENT, size, 0x1001];
+        questions.push(just_enough(Question::new(0x1000, sizes)));
+    }
 }
 
 /// More than 65,536 streams, and the largest directories that one location page of 1,024 and of 4,096 bytes can list,

@@ -14,7 +14,7 @@ const SOME_ROOM: usize = 5_000;
 const LARGEST: usize = 100_000;
 
 const FIXED_SEED: u64 = 0x7061_636b;
-const FIXED_RANDOM: usize = 250;
+const FIXED_RANDOM: usize = 100;
 
 /// The fixed list.
 pub fn fixed() -> impl Iterator<Item = Question> {
