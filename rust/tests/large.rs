@@ -94,6 +94,7 @@ fn files_written_from_over_4_gib() {
 
 /// A directory of the count and 2^30 - 2 sizes is the largest whose size takes 32 bits.
 #[test]
+#[ignore = "it takes seconds, and minutes under an emulator"]
 fn directories_over_4_gib() {
     let sizes = zeros::<u32>((1 << 30) - 1);
     let no_room = Refusal { number: 10, value: (3 + 16_384 + 1) << 18 };

@@ -150,7 +150,7 @@ fn streams_around_a_page() {
 
 #[test]
 fn larger_pages() {
-    for shift in [17, 20, 23] {
+    for shift in [17, 20] {
         let file = pack(1 << shift, &[1, ABSENT, (1 << shift) + 1]);
         assert_eq!(file.len(), 8 << shift);
     }
