@@ -16,12 +16,12 @@ fn pages() -> Vec<Question> {
     vec![
         // R81: the header; R84: the directory and the location page, if there is nothing else.
         written(P, &[]),
-        // R82: free-map pages are left out: the stream's last page, the directory, the location page after them.
-        written(P, &[253 * P]),
+        // R82: the last data page before map pages 257 and 258 is the stream's, the directory's, the location page.
         written(P, &[254 * P]),
-        written(P, &[252 * P]),
-        written(P, &[251 * P]),
-        // R83: streams in order. R91 names the first.
+        written(P, &[253 * P]),
+        written(P, &[249 * P]),
+        written(P, &[250 * P]),
+        // R83: streams in order.
         written(P, &[1, 1]),
         written(P, &[P, P + 1]),
         // R84: the directory has one page, and then two.
@@ -44,7 +44,7 @@ fn bits() -> Vec<Question> {
         written(2 * P, &[3 * 2 * P]),
         written(2 * P, &[2 * 2 * P]),
         written(4 * P, &[]),
-        // R87: bits 7 and 0 of two bytes.
+        // R87: the bits of pages 7 and 8.
         written(P, &[2 * P]),
         written(P, &[3 * P]),
         // R88: what a part leaves of its last page is 0.
