@@ -38,42 +38,37 @@ type Answer = Vec<(Part, Vec<Word>)>;
 /// Counts the streams of the files that ours wrote and both read.
 pub fn compare(questions: impl Iterator<Item = Question>, comparison: &mut Comparison) {
     for (n, question) in questions.enumerate() {
-        let bytes = question.bytes();
-        let (mut ours, mut wanted) = (Vec::new(), Vec::new());
-        let mut written = 0;
-        for room in question.low..=question.high {
-            let our = Outcome::of::<Packing>(&question, &bytes, room);
-            let reckoned = Outcome::of::<Reckoning>(&question, &bytes, room);
-            push(&mut ours, room, &our);
-            push(&mut wanted, room, &reckoned);
-            if reckoned.file().is_some() && written == 0 {
-                let file = our.file().unwrap_or(&[]);
-                push_read(&mut ours, "pdb", read::<Wanted>(&question, file));
-                push_read(&mut ours, "ours", read::<Ours>(&question, file));
-                for &by in &["pdb", "ours"] {
-                    push_read(
-                        &mut wanted,
-                        by,
-                        given(&question, reckoned.file().map_or(0, <[u8]>::len)),
-                    );
-                }
-                written = reading::count(&question);
-            }
+        let (our, reckoned) = (
+            question.outcomes::<Packing>(),
+            question.outcomes::<Reckoning>(),
+        );
+        let (mut ours, mut wanted) = (written(&our), written(&reckoned));
+        let mut streams = 0;
+        if let Some(length) = reckoned.iter().find_map(|outcome| outcome.result.ok()) {
+            let file = our.iter().find_map(Outcome::file).unwrap_or(&[]);
+            ours.extend(named("pdb", read::<Wanted>(&question, file)));
+            ours.extend(named("ours", read::<Ours>(&question, file)));
+            wanted.extend(named("pdb", given(&question, length)));
+            wanted.extend(named("ours", given(&question, length)));
+            streams = reading::count(&question);
         }
         comparison.check(n, ours, wanted, || format!("{}\n", asked(&question)));
-        comparison.count(written);
+        comparison.count(streams);
     }
 }
 
-fn push(answer: &mut Answer, room: usize, outcome: &Outcome) {
-    answer.push((Part::Room(room), outcome.result_words()));
-    answer.push((Part::Store, in_eights(&outcome.store)));
+/// The result and the whole store, in each room.
+fn written(outcomes: &[Outcome]) -> Answer {
+    let parts = |outcome: &Outcome| {
+        vec![
+            (Part::Room(outcome.store.len()), outcome.result_words()),
+            (Part::Store, in_eights(&outcome.store)),
+        ]
+    };
+    outcomes.iter().flat_map(parts).collect()
 }
 
-fn push_read(answer: &mut Answer, by: &'static str, parts: Parts) {
-    answer.extend(
-        parts
-            .into_iter()
-            .map(|(part, words)| (Part::Read(by, part), words)),
-    );
+fn named(by: &'static str, parts: Parts) -> impl Iterator<Item = (Part, Vec<Word>)> {
+    let part = move |(part, words)| (Part::Read(by, part), words);
+    parts.into_iter().map(part)
 }

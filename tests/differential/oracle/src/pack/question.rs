@@ -1,6 +1,6 @@
 //! A question: writing a container into stores of several sizes.
 
-use super::answers::Outcome;
+use super::answers::{Outcome, Packer};
 use super::pages::bytes_of;
 use super::reading;
 use super::reckoning::{Layout, Reckoning};
@@ -44,23 +44,23 @@ impl Question {
         (0..self.length as u64).map(byte).collect()
     }
 
-    /// What is reckoned for each room.
-    pub fn reckoned(&self) -> Vec<(usize, Outcome)> {
+    /// What a writer does in each room.
+    pub fn outcomes<P: Packer>(&self) -> Vec<Outcome> {
         let bytes = self.bytes();
         let rooms = self.low..=self.high;
         rooms
-            .map(|room| (room, Outcome::of::<Reckoning>(self, &bytes, room)))
+            .map(|room| Outcome::of::<P>(self, &bytes, room))
             .collect()
     }
 
     /// The digest of the reckoned answers. Stops unless pdb reads in the file what was to be written.
     pub fn digest(&self) -> Digest {
         let mut digest = Digest::default();
-        let reckoned = self.reckoned();
-        for (_, outcome) in &reckoned {
+        let reckoned = self.outcomes::<Reckoning>();
+        for outcome in &reckoned {
             digest.mix_all(&outcome.words());
         }
-        if let Some(file) = reckoned.iter().find_map(|(_, outcome)| outcome.file()) {
+        if let Some(file) = reckoned.iter().find_map(Outcome::file) {
             reading::judge(self, file);
         }
         digest

@@ -1,9 +1,10 @@
 //! A record and the reckoned answers as text, to look into a difference.
 
+use super::answers::Outcome;
 use super::list;
 use super::pages::Role;
 use super::question::Question;
-use super::reckoning::Layout;
+use super::reckoning::{Layout, Reckoning};
 use crate::digest::text as words;
 
 pub fn record(list: &[u8], n: usize) -> String {
@@ -15,11 +16,12 @@ pub fn record(list: &[u8], n: usize) -> String {
         recorded,
         question.digest(),
     );
-    let outcomes = question.reckoned();
-    for (room, outcome) in &outcomes {
-        text += &format!("  room {}: {}\n", room, words(&outcome.result_words()));
+    let outcomes = question.outcomes::<Reckoning>();
+    for outcome in &outcomes {
+        let result = words(&outcome.result_words());
+        text += &format!("  room {}: {}\n", outcome.store.len(), result);
     }
-    if let Some(file) = outcomes.iter().find_map(|(_, outcome)| outcome.file()) {
+    if let Some(file) = outcomes.iter().find_map(Outcome::file) {
         text += &pages(&question, file);
     }
     text
