@@ -59,7 +59,7 @@ fn replay_record(
     with_header(tally, h, runs, sizes, bytes, store)
 }
 
-// Reads the record's runs. Each has a size; `runs` is as long as so many may be.
+// Reads the record's runs; `runs` is as long as they may be. Each has a size.
 fn with_header(
     tally: Tally,
     h: Header,

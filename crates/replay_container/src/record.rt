@@ -18,8 +18,8 @@ pub const LARGEST_ROOM: usize = 131072;
 // The bytes of a run: how many sizes, and the size.
 pub const RUN: usize = 6;
 
-// The bytes of as many runs as there may be sizes.
-pub const LONGEST_RUNS: usize = 98400;
+// The bytes of as many runs as a record may have, 1,024.
+pub const LONGEST_RUNS: usize = 6144;
 
 // More sizes than any list has.
 const TOO_MANY: usize = usize::MAX;

@@ -10,10 +10,11 @@ use super::question::Question;
 use crate::digest::Digest;
 use crate::records::{number, Layout};
 
-/// The most sizes of a question.
-pub const MOST_SIZES: usize = 16_400;
+/// The most sizes of a question, and the most runs of equal ones.
+const MOST_SIZES: usize = 16_400;
+const MOST_RUNS: usize = 1_024;
 /// The most bytes that are lent.
-pub const LONGEST: usize = 1 << 17;
+const LONGEST: usize = 1 << 17;
 pub const LARGEST_ROOM: usize = 1 << 17;
 
 /// The bytes of a run.
@@ -26,15 +27,11 @@ pub const LAYOUT: Layout = Layout {
 };
 
 impl Question {
-    /// Whether it is within the limits of a list.
-    pub fn is_listed(&self) -> bool {
-        self.sizes.len() <= MOST_SIZES && self.length <= LONGEST && self.high <= LARGEST_ROOM
-    }
-
     fn record(&self) -> Vec<u8> {
-        assert!(self.low <= self.high && self.is_listed());
-        let Digest { a, b } = self.digest();
         let runs = runs(&self.sizes);
+        assert!(self.sizes.len() <= MOST_SIZES && runs.len() <= MOST_RUNS);
+        assert!(self.length <= LONGEST && self.low <= self.high && self.high <= LARGEST_ROOM);
+        let Digest { a, b } = self.digest();
         let mut record = Vec::with_capacity(LAYOUT.header + RUN * runs.len());
         record.extend_from_slice(&(runs.len() as u16).to_le_bytes());
         for &number in &[
