@@ -13,8 +13,8 @@ use Rattle.container_layout.specs.Layout.{presentBytes, bytesUpTo, pages
 abbrev pub numberBytes : List ℕ → ℕ → ℕ
 numberBytes numbers i = byteAt (bytesOf (getD numbers (i / 4) 0)) (i % 4)
 
--- ---- page 0 (document 01, rule 1): the magic, then page_size, free_page_map, pages_used, directory_size, reserved, and
--- the location entry. "with free map 1"; "unused bytes and reserved are 0"
+-- ---- page 0 (document 01, rule 1): the magic, then page_size, free_page_map, pages_used, directory_size, reserved,
+-- and the location entry. "with free map 1"; "unused bytes and reserved are 0"
 abbrev pub headerNumbers : ℕ → List ℕ → List ℕ
 headerNumbers p sizes = p ∷ 1 ∷ pagesUsed p sizes ∷ directorySize p sizes ∷ 0 ∷ locationPage p sizes ∷ []
 
@@ -25,8 +25,9 @@ unfoldable pub headerByte : ℕ → List ℕ → ℕ → ℕ
 headerByte p sizes i =
     cond (ltb i magicLength) (byteAt bigMagic i) (numberBytes (headerNumbers p sizes) (i - magicLength))
 
--- ---- the free map: "The bit of page n is bit n mod 8, lowest first, of byte (n mod 8P)/8 of page 1 + P*(n/8P)". So bit b
--- of byte x of page 1 + P*q is the bit of page 8*(q*P + x) + b. "it is 1 for a padding page and 0 for every other"
+-- ---- the free map: "The bit of page n is bit n mod 8, lowest first, of byte (n mod 8P)/8 of page 1 + P*(n/8P)". So
+-- bit b of byte x of page 1 + P*q is the bit of page 8*(q*P + x) + b. "it is 1 for a padding page and 0 for every other
+-- page and past the last"
 unfoldable pub bits : (ℕ → Bool) → ℕ → ℕ
 bits one zero = 0
 bits one (suc n) = bits one n + cond (one n) (2 ^ n) 0
@@ -34,8 +35,8 @@ bits one (suc n) = bits one n + cond (one n) (2 ^ n) 0
 unfoldable pub mapByte : ℕ → ℕ → ℕ → ℕ → ℕ → ℕ
 mapByte p last used q x = bits (λ b. isPadding last used (8 * (q * p + x) + b)) 8
 
--- ---- the data, end to end. Each stream, the directory and the location list begin a page, and what they leave of their
--- last page is 0
+-- ---- the data, end to end. Each stream, the directory and the location list begin a page, and what they leave of
+-- their last page is 0
 -- the stream, among the first n, that data page r belongs to: the last that begins there or before
 unfoldable pub streamOf : ℕ → List ℕ → ℕ → ℕ → ℕ
 streamOf p sizes zero r = 0

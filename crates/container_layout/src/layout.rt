@@ -12,8 +12,8 @@ ghost use Rattle.paged.specs.PageSize.{PageSize, sizeFits};
 ghost use Rattle.container_layout.specs.Planning.{layoutOf};
 ghost use Rattle.container_layout.specs.Inner.{Planning, Sized, Adding, Summing, Paging, Short, Numbered, whyPlanned};
 
-// Where the parts lie: P, the pages of all streams and of the directory, the location page, which is the last data page,
-// and pages_used.
+// Where the parts lie: P, the pages of all streams and of the directory, the location page, which is the last data
+// page, and pages_used.
 pub struct Layout {
     pub pagesize: usize,
     pub streams: usize,

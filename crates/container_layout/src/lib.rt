@@ -1,5 +1,5 @@
-// Where the parts of a container lie, before it is written: the header's page, free-map pages, and the data pages of the
-// streams, of the directory and of its location list.
+// Where the parts of a container lie, before it is written: the header's page, free-map pages, and the data pages of
+// the streams, of the directory and of its location list.
 //
 // refusal.rt: why a container is not written. place.rt: the numbers of the data pages. layout.rt: how much there is of
 // each part, and whether the format can hold it. Crate `container_writer` above writes the file.

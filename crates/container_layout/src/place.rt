@@ -1,5 +1,5 @@
-// The numbers of the data pages: all but the header's page and the free-map pages, whose number mod P is 1 or 2. Between
-// two pairs of map pages there are P - 2 data pages.
+// The numbers of the data pages: all but the header's page and the free-map pages, whose number mod P is 1 or 2.
+// Between two pairs of map pages there are P - 2 data pages.
 ghost use mathlib.Core.Path.{_≡_};
 ghost use Prim.Native.Nat.{_-_, _%_, _^_, _<_};
 ghost use Rattle.paged.specs.PageSize.{PageSize};

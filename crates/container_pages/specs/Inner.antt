@@ -66,4 +66,5 @@ mapFrom l q at i = mapOf l q (i - at)
 -- does not matter
 pub record Beginning (l : Layout) (r at : ℕ) (o o′ : List ℕ) : Type 0 where
   pub place : at ≡ dataPage (l .pagesize) r * l .pagesize
-  pub maps : (body : ℕ → ℕ) → Filled (pagesWith (l .pagesize) (mapOf l) body) o (after (l .pagesize) r * l .pagesize) at o′
+  pub maps : (body : ℕ → ℕ)
+      → Filled (pagesWith (l .pagesize) (mapOf l) body) o (after (l .pagesize) r * l .pagesize) at o′

@@ -24,7 +24,8 @@ part l first content = pagesWith (l .pagesize) (mapOf l) (λ i. content (i - fir
 -- the data pages from rank `first` up to rank `next`, and the map pages before them
 abbrev pub PartFilled : Layout → ℕ → ℕ → (ℕ → ℕ) → List ℕ → List ℕ → Type 0
 PartFilled l first next content o o′ =
-    Filled (part l first content) o (after (l .pagesize) first * l .pagesize) (after (l .pagesize) next * l .pagesize) o′
+    Filled (part l first content)
+    o (after (l .pagesize) first * l .pagesize) (after (l .pagesize) next * l .pagesize) o′
 
 -- so many bytes, at least one and fewer than 2^32, take no more data pages from this rank on than there are before the
 -- next map page

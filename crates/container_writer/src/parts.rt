@@ -49,8 +49,8 @@ fn write_run(l: Layout, first: usize, run: &[u8], out: &mut [u8]) -> usize
     first + pages
 }
 
-// So many pages of numbers, from the data page of this rank on. The caller guarantees the layout of these sizes, and the
-// room.
+// So many pages of numbers, from the data page of this rank on. The caller guarantees the layout of these sizes, and
+// the room.
 pub(crate) fn write_numbers(
     l: Layout,
     sizes: &[u32],

@@ -29,8 +29,8 @@ pub enum Written {
 // The header's numbers stand behind the magic.
 const MAGIC_LENGTH: usize = 32;
 
-// Writes the file to the front of the store. A size of 0xffffffff is that of an absent stream, and the present ones have
-// their bytes in `bytes`, end to end. Refuses with 3, 22, 23, 24 or 10, in this order.
+// Writes the file to the front of the store. A size of 0xffffffff is that of an absent stream, and the present ones
+// have their bytes in `bytes`, end to end. Refuses with 3, 22, 23, 24 or 10, in this order.
 pub fn write_container(page_size: u32, sizes: &[u32], bytes: &[u8], out: &mut [u8]) -> Written
     ensures { λ r. ⌜
         Writing «page_size» (now (sizes .entry)) (now (bytes .entry)) (now (out .entry)) r (now (out .exit))
@@ -48,8 +48,8 @@ pub fn write_container(page_size: u32, sizes: &[u32], bytes: &[u8], out: &mut [u
     Written::Length(needed)
 }
 
-// The whole file, in file order. The caller guarantees the layout of these sizes, that the bytes are those of the present
-// streams, and the room.
+// The whole file, in file order. The caller guarantees the layout of these sizes, that the bytes are those of the
+// present streams, and the room.
 fn write_file(l: Layout, sizes: &[u32], bytes: &[u8], out: &mut [u8])
     requires { ⌜ Laid l (now sizes) ⌝ }
     requires { ⌜ Given (l .pagesize) (now sizes) (now bytes) ⌝ }

@@ -1,8 +1,8 @@
 // The static library that Rust and C link: each operation as a C function over numbers and slices. A slice crosses as a
 // pointer and a length.
 //
-// Each function returns 0 on success, else the refusal's number in document 01's table, 20 or 21 of request 2026-01, or 22
-// to 24 of request 2026-05.
+// Each function returns 0 on success, else the refusal's number in document 01's table, 20 or 21 of request 2026-01, or
+// 22 to 24 of request 2026-05.
 // It writes its other results to the numbers that it is lent: on a refusal `value` is the refusal's value, and a number
 // that has nothing to say is 0. The caller guarantees that what it lends is there and does not overlap, and nothing
 // else.
