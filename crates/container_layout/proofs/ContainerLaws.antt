@@ -1,20 +1,21 @@
--- What stands at each place of the file: in the header's page, in a map page and the page after it, in the data pages of
--- a stream, of the directory and of the location list.
-use mathlib.Core.Path.{_≡_, refl, sym, _∙_, ap}
-use mathlib.Core.Bool.{Bool, true, false}
+-- What stands at each place of the file: in the header's page, in a map page and the page after it, in the data pages
+-- of a stream, of the directory and of the location list.
+use mathlib.Core.Path.{_≡_, _∙_, ap}
+use mathlib.Core.Bool.{true, false}
 use mathlib.Core.Logic.{⊎-elim}
 use mathlib.Core.List.{List}
 use Prim.Native.Nat.{ℕ, zero, suc, _+_, _-_, _*_, _/_, _%_, _≤_, _<_}
 use native.Mathlib.Omega.{arith}
 use native.Mathlib.Nat.{add-mul, mul-add-div-right, div-lt-iff-lt-mul}
-use borrow.Author.Tests.{ne-eqb, eq-eqb, le-leb, lt-leb, lt-ltb, le-ltb}
+use borrow.Author.Tests.{ne-eqb, le-leb, lt-leb, lt-ltb, le-ltb}
 use lib.ListN.{length, getD}
 use Rattle.outcome.proofs.OutcomeLaws.{below-or}
 use Rattle.parse_buffer.specs.Bytes.{byteAt, bytesOf}
-use Rattle.stream.specs.Stream.{pagesOf}
+use Rattle.header.specs.Header.{bigMagic}
+use Rattle.stream.specs.Stream.{absent, pagesOf}
 use Rattle.container_layout.specs.Place.{dataPage, rank, pagesWith}
-use Rattle.container_layout.specs.Layout.{pagesUpTo, streamPages, directoryPages, locationPage, pagesUsed}
-use Rattle.container_layout.specs.Container.{numberBytes, headerByte, mapByte, streamOf, streamByte, streamsByte, directoryNumbers, locationNumbers, dataByte, container}
+use Rattle.container_layout.specs.Layout.{presentBytes, bytesUpTo, pagesUpTo, streamPages, directoryPages, locationPage, pagesUsed, isPadding}
+use Rattle.container_layout.specs.Container.{numberBytes, headerNumbers, magicLength, headerByte, mapByte, streamOf, streamByte, streamsByte, directoryNumbers, locationNumbers, dataByte, container}
 use Rattle.container_layout.proofs.PlaceLaws.{page-of, place-of, divides, times-up, times-le, data-least, data-not, rank-data}
 use Rattle.container_layout.proofs.LayoutLaws.{pages-next, pages-rise}
 
@@ -22,6 +23,45 @@ use Rattle.container_layout.proofs.LayoutLaws.{pages-next, pages-rise}
 pub number-byte : (numbers : List ℕ) (w j : ℕ) → j < 4 → numberBytes numbers (4 * w + j) ≡ byteAt (bytesOf (getD numbers w 0)) j
 number-byte numbers w j l =
     let d = divides 4 (4 * w + j) w j l (omega arith) in rw (d .0, d .1)
+
+-- ---- the header's page: the magic, and numbers after it
+module _ (p : ℕ) (sizes : List ℕ) (i : ℕ) where
+  pub header-magic : i < magicLength → headerByte p sizes i ≡ byteAt bigMagic i
+  unfolding headerByte
+  header-magic l = rw (lt-ltb i magicLength l)
+
+  pub header-number : magicLength ≤ i → headerByte p sizes i ≡ numberBytes (headerNumbers p sizes) (i - magicLength)
+  unfolding headerByte
+  header-number l = rw (le-ltb i magicLength l)
+
+-- ---- a stream's bytes, and zeros after them
+pub present-size : (size : ℕ) → (size ≡ absent → ⊥) → size ≡ presentBytes size
+unfolding presentBytes
+present-size size h = rw (ne-eqb size absent h)
+
+module _ (sizes bytes : List ℕ) (k i : ℕ) where
+  pub stream-inside : i < presentBytes (getD sizes k 0) → streamByte sizes bytes k i ≡ byteAt bytes (bytesUpTo sizes k + i)
+  unfolding streamByte
+  stream-inside l = rw (lt-ltb i (presentBytes (getD sizes k 0)) l)
+
+  pub stream-past : presentBytes (getD sizes k 0) ≤ i → streamByte sizes bytes k i ≡ 0
+  unfolding streamByte
+  stream-past l = rw (le-ltb i (presentBytes (getD sizes k 0)) l)
+
+-- ---- which pages are padding
+module _ (last used n : ℕ) where
+  pub padding-yes : last < n → n < used → isPadding last used n ≡ true
+  unfolding isPadding
+  padding-yes l m = rw (lt-ltb last n l, lt-ltb n used m)
+
+  pub padding-not : ((last < n) × (n < used) → ⊥) → isPadding last used n ≡ false
+  unfolding isPadding
+  padding-not none =
+      ⊎-elim
+      (λ (l : last < n).
+      ⊎-elim (λ (m : n < used). absurd (none (l, m))) (λ (m : used ≤ n). rw (lt-ltb last n l, le-ltb n used m)) (below-or n used))
+      (λ (l : n ≤ last). rw (le-ltb last n l))
+      (below-or last n)
 
 -- ---- the pages after the header
 module _ (p : ℕ) (big : 3 ≤ p) (map : ℕ → ℕ → ℕ) (body : ℕ → ℕ) (x : ℕ) (l : x < p) where

@@ -1,16 +1,15 @@
 -- How much there is of each part: the sums rise, no stream has more pages than bytes, and what has 32 bits.
-use mathlib.Core.Path.{_≡_, refl, sym, _∙_, ap}
+use mathlib.Core.Path.{_≡_, _∙_, ap}
 use mathlib.Core.Bool.{Bool, true, false, cond}
 use mathlib.Core.Logic.{⊎-elim}
 use mathlib.Core.List.{List}
-use Prim.Native.Nat.{ℕ, zero, suc, _+_, _-_, _*_, _/_, _%_, _^_, max, _≤_, _<_}
+use Prim.Native.Nat.{ℕ, zero, suc, _+_, _-_, _*_, _/_, _^_, _≤_, _<_}
 use native.Mathlib.Omega.{arith}
-use native.Mathlib.Nat.{div-add-mod', mod-eq-of-lt, mul-le-mul-left, mul-le-mul-right, mul-left-comm, mul-add, le-max-left, le-max-right, max-le}
+use native.Mathlib.Nat.{div-add-mod', mod-eq-of-lt, mul-le-mul-left, mul-le-mul-right, mul-left-comm, mul-add, max-le}
 use native.Mathlib.Decide.{le-ind}
 use native.Mathlib.Numerals.{add-one}
-use borrow.Author.Tests.{eq-eqb}
 use lib.Dec.{eqb}
-use lib.ListN.{length, getD}
+use lib.ListN.{getD}
 use Rattle.outcome.proofs.OutcomeLaws.{below-or}
 use Rattle.paged.specs.PageSize.{PageSize, need}
 use Rattle.paged.proofs.SizeLaws.{need-le, need-covers, need-least, word-in-page}

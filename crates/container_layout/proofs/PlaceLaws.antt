@@ -1,12 +1,10 @@
 -- The data pages: they rise, none is a map page, each page is the data page of its rank, and which pages lie between.
-use mathlib.Core.Path.{_≡_, refl, sym, _∙_, ap}
-use mathlib.Core.Bool.{false}
+use mathlib.Core.Path.{_≡_, refl, _∙_, ap}
 use mathlib.Core.Logic.{⊎-elim, _⊎_, inl, inr}
-use mathlib.Core.List.{List, [], _∷_, _++_}
+use mathlib.Core.List.{List, []}
 use Prim.Native.Nat.{ℕ, zero, suc, _+_, _-_, _*_, _/_, _%_, _≤_, _<_}
 use native.Mathlib.Omega.{arith}
 use native.Mathlib.Nat.{le-div-iff-mul-le, div-lt-iff-lt-mul, mod-lt, div-add-mod', mul-le-mul-right, suc-mul}
-use borrow.Author.Tests.{ne-eqb, eq-eqb}
 use lib.ListN.{length, getD, length-append, List·getD-append, List·getD-eq-default}
 use lib.Seq.{getD-at}
 use Rattle.outcome.proofs.OutcomeLaws.{below-or}
@@ -36,13 +34,6 @@ times-up p {a} {b} l = let k = rw suc-mul at (mul-le-mul-right p l) in omega ari
 
 pub times-le : (p : ℕ) {a b : ℕ} → a ≤ b → a * p ≤ b * p
 times-le p l = mul-le-mul-right p l
-
--- a product determines where it is cut
-pub same-parts : (p : ℕ) {a b x y : ℕ} → x < p → y < p → a * p + x ≡ b * p + y → (a ≡ b) × (x ≡ y)
-same-parts p {a} {b} {x} {y} hx hy e =
-    let u = divides p (a * p + x) a x hx refl in
-    let v = divides p (a * p + x) b y hy e in
-    (sym (u .0) ∙ v .0, sym (u .1) ∙ v .1)
 
 module _ (p : ℕ) (big : 3 ≤ p) where
   -- between two pairs of map pages, there are so many data pages
@@ -94,14 +85,6 @@ module _ (p : ℕ) (big : 3 ≤ p) where
   data-rises-le r s l =
       ⊎-elim (λ (m : r < s). let k = data-rises r s m in omega arith)
       (λ (m : s ≤ r). let same : r ≡ s = omega arith in let k = ap (dataPage p) same in omega arith)
-      (below-or r s)
-
-  -- so it is known by its number
-  pub data-only : (r s : ℕ) → dataPage p r ≡ dataPage p s → r ≡ s
-  data-only r s e =
-      ⊎-elim (λ (l : r < s). absurd (let k = data-rises r s l in omega arith))
-      (λ (l : s ≤ r).
-      ⊎-elim (λ (m : s < r). absurd (let k = data-rises s r m in omega arith)) (λ (m : r ≤ s). omega arith) (below-or s r))
       (below-or r s)
 
   -- ---- no data page is a map page

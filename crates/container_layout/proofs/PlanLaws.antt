@@ -1,22 +1,21 @@
 -- The tests of planning, the two sums over the sizes, and the ways out.
 use mathlib.Core.Path.{_≡_, refl, sym, _∙_, ap}
-use mathlib.Core.Bool.{Bool, true, false, not, cond}
+use mathlib.Core.Bool.{Bool, true, false, not}
 use mathlib.Core.Logic.{⊎-elim}
 use mathlib.Core.List.{List}
-use Prim.Native.Nat.{ℕ, zero, suc, _+_, _-_, _*_, _/_, _%_, _^_, max, _≤_, _<_}
+use Prim.Native.Nat.{ℕ, _+_, _-_, _*_, _/_, _%_, _^_, max, _≤_, _<_}
 use native.Mathlib.Omega.{arith}
-use native.Mathlib.Nat.{le-antisymm, div-le-self, mod-lt, mod-le, mul-le-mul, max-eq-left, max-eq-right}
+use native.Mathlib.Nat.{le-antisymm, div-le-self, mod-lt, mod-le, mul-le-mul}
 use borrow.Author.Tests.{ne-eqb, eq-eqb, eqb-true, le-leb, lt-leb, not-true, not-false}
 use lib.Count
 use lib.Dec.{eqb, leb}
 use lib.ListN.{length, getD}
 use mir.Syntax.{w64}
 use mir.Val.{Fits}
-use Rattle.outcome.specs.Outcome.{ok, refused, _>>=_, _>>_, require}
+use Rattle.outcome.specs.Outcome.{_>>_, require}
 use Rattle.outcome.proofs.OutcomeLaws.{below-or}
-use Rattle.paged.specs.PageSize.{smallest, largest, sizeFits, PageSize, need}
-use Rattle.paged.proofs.SizeLaws.{passes, need-le, at-most-largest}
-use Rattle.header.specs.Header.{headerBlock}
+use Rattle.paged.specs.PageSize.{smallest, sizeFits, PageSize, need}
+use Rattle.paged.proofs.SizeLaws.{passes, at-most-largest}
 use Rattle.stream.specs.Stream.{absent, pagesOf}
 use Rattle.container_layout.specs.Place.{dataPage}
 use Rattle.container_layout.specs.Layout.{presentBytes, bytesUpTo, pagesUpTo, streamPages, directorySize, directoryPages, locationPage, pagesUsed}
@@ -25,7 +24,7 @@ use Rattle.container_layout.specs.Inner.{plannedIn, Planning, Sized, Add
 use Rattle.container_layout.specs.declared.refusal.Refusal.the-variants.{InvalidPageSize, SizesDiffer, DirectoryTooLarge, Over32Bits}
 use Rattle.container_layout.specs.declared.layout.Layout.{Layout}
 use Rattle.container_layout.specs.declared.layout.Planned.the-variants as planned
-use Rattle.container_layout.proofs.LayoutLaws.{pages-few, pages-under, bytes-next, bytes-rise, pages-next, size-fours, few-numbers, many-numbers, data-most, ranks-small, location-small, used-small}
+use Rattle.container_layout.proofs.LayoutLaws.{pages-under, bytes-next, bytes-rise, pages-next, size-fours, few-numbers, many-numbers, ranks-small, location-small, used-small}
 
 -- ---- `present_bytes`
 pub present-none : (size : ℕ) → size ≡ absent → Sized size 0
@@ -174,13 +173,6 @@ module _ (p : ℕ) (sizes : List ℕ) (s : PageSize p) {streams numbers : ℕ} (
 
       pub laid-out : {least used : ℕ} → least ≡ need p 4096 → used ≡ max (last + 1) least → _≡_ {A = Layout} (record { pagesize = p; streams = streams; directory = directory; last = last; used = used }) (layoutOf p sizes)
       laid-out m u = rw (n .pages, directory-is, u, m, last-is)
-
--- ---- `most`
-pub most-second : (a b : ℕ) → a < b → b ≡ max a b
-most-second a b h = sym (max-eq-right (omega arith))
-
-pub most-first : (a b : ℕ) → b ≤ a → a ≡ max a b
-most-first a b h = sym (max-eq-left h)
 
 -- ---- `plan`
 pub plan-size : (p : ℕ) {fit : Bool} → fit ≡ sizeFits p → not fit ≡ false → PageSize p

@@ -1,24 +1,23 @@
 -- What is known of a container that can be written, and its padding pages, which are 0.
 use mathlib.Core.Path.{_≡_, refl, sym, _∙_, ap}
 use mathlib.Core.List.{List}
-use mathlib.Core.Logic.{⊎-elim}
-use Prim.Native.Nat.{ℕ, zero, suc, _+_, _-_, _*_, _/_, _%_, _^_, max, _≤_, _<_}
+use Prim.Native.Nat.{ℕ, zero, suc, _+_, _-_, _*_, _/_, _%_, _^_, _≤_, _<_}
 use native.Mathlib.Omega.{arith}
-use native.Mathlib.Nat.{add-mul, le-max-left, max-eq-left, max-le, mod-eq-of-lt, mul-le-mul-left}
+use native.Mathlib.Nat.{add-mul, mod-eq-of-lt}
 use borrow.Author.Tests.{leb-true, eqb-true}
-use lib.ListN.{length, getD, List·getD-eq-default}
+use lib.ListN.{length, List·getD-eq-default}
 use Rattle.outcome.specs.Outcome.{ok}
-use Rattle.outcome.proofs.OutcomeLaws.{below-or, came, ok-is, passed}
+use Rattle.outcome.proofs.OutcomeLaws.{came, ok-is, passed}
 use Rattle.parse_buffer.specs.Bytes.{byteAt, bytesOf}
-use Rattle.paged.specs.PageSize.{PageSize, need}
+use Rattle.paged.specs.PageSize.{PageSize}
 use Rattle.paged.proofs.SizeLaws.{passes, need-least}
 use Rattle.header.specs.Header.{headerBlock}
-use Rattle.container_layout.specs.Place.{dataPage, rank}
+use Rattle.container_layout.specs.Place.{rank}
 use Rattle.container_layout.specs.Layout.{bytesUpTo, streamPages, directorySize, directoryPages, locationPage, pagesUsed}
 use Rattle.container_layout.specs.Container.{numberBytes, locationNumbers, dataByte, container}
 use Rattle.container_layout.specs.Planning.{layoutOf, planning}
 use Rattle.container_layout.specs.declared.layout.Layout.{Layout}
-use Rattle.container_layout.proofs.PlaceLaws.{times-up, times-le, data-least, data-rank, data-rises-le, rank-from, pages-length}
+use Rattle.container_layout.proofs.PlaceLaws.{times-up, data-least, data-rank, rank-from, pages-length}
 use Rattle.container_layout.proofs.ContainerLaws.{with-page, data-location, container-pages}
 
 -- ---- each line of planning passed
@@ -64,14 +63,8 @@ module _ {p : ℕ} (sizes bytes : List ℕ) (s : PageSize p) (n : ℕ) (after : 
   few : n < 16
   few =
       let l = s .least in
-      let m : need p headerBlock ≤ 16 = need-least p headerBlock (omega arith) 16 (let k = mul-le-mul-left 16 l in omega arith) in
-      ⊎-elim
-      (λ (z : need p headerBlock < locationPage p sizes + 1). absurd (let e : pagesUsed p sizes ≡ locationPage p sizes + 1 = max-eq-left (omega arith) in omega arith))
-      (λ (z : locationPage p sizes + 1 ≤ need p headerBlock). omega (arith, max-le-two z))
-      (below-or (need p headerBlock) (locationPage p sizes + 1))
-    where
-      max-le-two : {a b : ℕ} → a ≤ b → max a b ≤ b
-      max-le-two h = max-le h (omega arith)
+      let m = need-least p headerBlock (omega arith) 16 (omega arith) in
+      omega arith
 
   rest : n % p ≡ n
   rest = let l = s .least in mod-eq-of-lt (omega (arith, few))

@@ -1,13 +1,13 @@
 -- Bytes filled in one after another, and by what is known to be the same. Zeros, one number, a copied run.
-use mathlib.Core.Path.{_≡_, refl, sym, _∙_, ap}
+use mathlib.Core.Path.{_≡_, refl, _∙_, ap}
 use mathlib.Core.Logic.{⊎-elim}
-use mathlib.Core.List.{List, [], _∷_}
-use Prim.Native.Nat.{ℕ, suc, _+_, _-_, _*_, _/_, _%_, _^_, _≤_, _<_}
+use mathlib.Core.List.{List}
+use Prim.Native.Nat.{ℕ, suc, _+_, _-_, _/_, _%_, _≤_, _<_}
 use native.Mathlib.Omega.{arith}
 use native.Mathlib.Nat.{le-antisymm}
 use native.Mathlib.Numerals.{add-one, add-two}
 use lib.ListN.{length, getD, set, length-set}
-use lib.Seq.{sets, length-sets, getD-set-same, getD-set-other}
+use lib.Seq.{length-sets, getD-set-same, getD-set-other}
 use Rattle.outcome.proofs.OutcomeLaws.{below-or}
 use Rattle.parse_buffer.specs.Bytes.{File, bytesOf}
 use Rattle.store.specs.Putting.{Putting}

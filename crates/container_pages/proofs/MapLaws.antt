@@ -1,17 +1,15 @@
 -- The free map's bits eight at a time, a map page byte by byte, and the pages before a data page.
 use mathlib.Core.Path.{_≡_, refl, sym, _∙_, ap}
-use mathlib.Core.Bool.{Bool, true, false, cond}
+use mathlib.Core.Bool.{Bool, cond}
 use mathlib.Core.Logic.{⊎-elim}
 use mathlib.Core.List.{List}
 use Prim.Native.Nat.{ℕ, zero, suc, _+_, _-_, _*_, _/_, _%_, _^_, min, _≤_, _<_}
 use native.Mathlib.Omega.{arith}
-use native.Mathlib.Nat.{pow-suc, pow-le-pow-right, add-mul, div-le-self, le-antisymm}
-use borrow.Author.Tests.{lt-ltb, le-ltb}
+use native.Mathlib.Nat.{pow-suc, pow-le-pow-right, add-mul, div-le-self}
 use lib.ListN.{length, set}
 use mir.Syntax.{w64}
 use mir.Val.{Fits}
 use Rattle.outcome.proofs.OutcomeLaws.{below-or}
-use Rattle.parse_buffer.specs.Bytes.{File}
 use Rattle.paged.specs.PageSize.{PageSize}
 use Rattle.paged.proofs.SizeLaws.{at-most-largest}
 use Rattle.container_layout.specs.Place.{dataPage, pagesWith, after}
@@ -20,7 +18,7 @@ use Rattle.container_layout.specs.Container.{bits, mapByte}
 use Rattle.container_layout.specs.declared.layout.Layout.{Layout}
 use Rattle.container_layout.proofs.PlaceLaws.{times-le, data-least, after-next, after-maps}
 use Rattle.container_layout.proofs.LayoutLaws.{data-most}
-use Rattle.container_layout.proofs.ContainerLaws.{with-map, with-zero}
+use Rattle.container_layout.proofs.ContainerLaws.{padding-yes, padding-not, with-map, with-zero}
 use Rattle.container_pages.specs.Inner.{Filled, Within, Bounds, lowBits, Freeing, mapOf, mapFrom, Beginning}
 use Rattle.container_pages.proofs.FillLaws.{filled-none, filled-more, filled-as, filled-set}
 
@@ -83,27 +81,15 @@ module _ (last used n : ℕ) (some : last < used) where
   abbrev step : Bool → ℕ → ℕ
   step b c = between (used - n) (last + 1 - n) c + cond b (2 ^ c) 0
 
-  padding-yes : (c : ℕ) → last < n + c → n + c < used → isPadding last used (n + c) ≡ true
-  unfolding isPadding
-  padding-yes c a b = rw (lt-ltb last (n + c) a, lt-ltb (n + c) used b)
-
-  padding-below : (c : ℕ) → n + c ≤ last → isPadding last used (n + c) ≡ false
-  unfolding isPadding
-  padding-below c a = rw (le-ltb last (n + c) a)
-
-  padding-past : (c : ℕ) → used ≤ n + c → isPadding last used (n + c) ≡ false
-  unfolding isPadding
-  padding-past c b = rw (lt-ltb last (n + c) (omega arith), le-ltb (n + c) used b)
-
   free-step : (c : ℕ) → between (used - n) (last + 1 - n) (suc c) ≡ step (isPadding last used (n + c)) c
   free-step c =
       ⊎-elim
       (λ (u : c < used - n).
       ⊎-elim
-      (λ (v : c < last + 1 - n). rw (padding-below c (omega arith)) (between-before (used - n) (last + 1 - n) c (omega arith) v))
-      (λ (v : last + 1 - n ≤ c). rw (padding-yes c (omega arith) (omega arith)) (between-in (used - n) (last + 1 - n) c (omega arith) v u))
+      (λ (v : c < last + 1 - n). rw (padding-not last used (n + c) (λ h. omega (arith, h .0))) (between-before (used - n) (last + 1 - n) c (omega arith) v))
+      (λ (v : last + 1 - n ≤ c). rw (padding-yes last used (n + c) (omega arith) (omega arith)) (between-in (used - n) (last + 1 - n) c (omega arith) v u))
       (below-or c (last + 1 - n)))
-      (λ (u : used - n ≤ c). rw (padding-past c (omega arith)) (between-past (used - n) (last + 1 - n) c (omega arith) u))
+      (λ (u : used - n ≤ c). rw (padding-not last used (n + c) (λ h. omega (arith, h .1))) (between-past (used - n) (last + 1 - n) c (omega arith) u))
       (below-or c (used - n))
 
   pub free-bits : (c : ℕ) → bits (λ b. isPadding last used (n + b)) c ≡ between (used - n) (last + 1 - n) c
@@ -147,9 +133,6 @@ module _ {l : Layout} {q at : ℕ} {o o₁ : List ℕ} {x : ℕ} (m : Map-so-far
   module _ (h : x < l .pagesize) where
     pub map-room : at + x < length o₁
     map-room = omega (arith, m .fits, m .filled .same)
-
-    pub map-place : length o < 2 ^ 64 → Fits w64 (at + x)
-    map-place s = record { fits = omega (arith, m .fits) }
 
     pub map-more : {v : ℕ} → Freeing l (8 * (q * l .pagesize + x)) v → Map-so-far l q at o (set o₁ (at + x) v) (x + 1)
     unfolding mapByte
@@ -256,6 +239,3 @@ place-is p r e = rw e
 
 pub run-small : {r : ℕ} (run : ℕ) → r < 2 ^ 32 → r / run < 2 ^ 32
 run-small {r} run h = omega (arith, div-le-self r run)
-
-pub bounds-size : {l : Layout} → Bounds l → PageSize (l .pagesize)
-bounds-size b = b .size

@@ -1,23 +1,20 @@
 -- The numbers of the header, the directory and the location list, one by one, and a run of them as bytes.
 use mathlib.Core.Path.{_≡_, refl, sym, _∙_, ap}
-use mathlib.Core.List.{List, [], _∷_, _++_}
-use Prim.Native.Nat.{ℕ, zero, suc, _+_, _-_, _*_, _/_, _%_, _^_, _≤_, _<_}
+use mathlib.Core.List.{List, _++_}
+use Prim.Native.Nat.{ℕ, zero, suc, _+_, _-_, _*_, _^_, _≤_, _<_}
 use native.Mathlib.Omega.{arith}
-use native.Mathlib.Nat.{le-antisymm}
-use lib.ListN.{length, getD, List·getD-append, List·getD-eq-default}
+use lib.ListN.{length, getD, List·getD-append}
 use lib.Seq.{getD-append-add}
 use mir.Syntax.{w32, w64}
 use mir.Val.{Fits}
-use Rattle.outcome.proofs.OutcomeLaws.{below-or}
 use Rattle.parse_buffer.specs.Bytes.{bytesOf}
 use Rattle.store.specs.Putting.{Putting}
-use Rattle.store.proofs.PutLaws.{put-length}
 use Rattle.paged.specs.PageSize.{PageSize}
 use Rattle.container_layout.specs.Place.{dataPage, dataPages}
 use Rattle.container_layout.specs.Layout.{streamPages, directorySize, directoryPages, locationPage, pagesUsed}
 use Rattle.container_layout.specs.Container.{numberBytes, headerNumbers, directoryNumbers, locationNumbers}
 use Rattle.container_layout.specs.declared.layout.Layout.{Layout}
-use Rattle.container_layout.proofs.PlaceLaws.{divides, data-rises-le, pages-length, pages-at, pages-past}
+use Rattle.container_layout.proofs.PlaceLaws.{data-rises-le, pages-at, pages-past}
 use Rattle.container_layout.proofs.LayoutLaws.{ranks-small, location-small, used-small}
 use Rattle.container_layout.proofs.ContainerLaws.{number-byte}
 use Rattle.container_pages.specs.Inner.{Filled, Laid, numbersOf, numbersFrom}
@@ -171,9 +168,6 @@ module _ {numbers : List ℕ} {first n at : ℕ} {o o₁ : List ℕ} {j place : 
 
     pub numbers-small : first + n < 2 ^ 32 → first + j < 2 ^ 32
     numbers-small h = omega arith
-
-    pub numbers-index : first + n < 2 ^ 32 → Fits w64 (first + j)
-    numbers-index h = record { fits = omega arith }
 
     module _ {v : ℕ} (e : v ≡ getD numbers (first + j) 0) {o₂ : List ℕ} {r : ℕ} (p : Putting (bytesOf v) o₁ place o₂ r) where
       same-bytes : (i : ℕ) → place ≤ i → i < r → getD (bytesOf v) (i - place) 0 ≡ numbersFrom numbers first at i

@@ -3,10 +3,9 @@ use mathlib.Core.Path.{_≡_, refl, sym, _∙_, ap}
 use mathlib.Core.Bool.{Bool, true, false, cond}
 use mathlib.Core.Logic.{⊎-elim}
 use mathlib.Core.List.{List}
-use Prim.Native.Nat.{ℕ, zero, suc, _+_, _-_, _*_, _/_, _%_, _^_, _≤_, _<_}
+use Prim.Native.Nat.{ℕ, _+_, _-_, _*_, _/_, _^_, _≤_, _<_}
 use native.Mathlib.Omega.{arith}
-use native.Mathlib.Nat.{add-mul, div-add-mod', mod-lt, le-div-iff-mul-le, div-lt-iff-lt-mul, le-antisymm}
-use borrow.Author.Tests.{lt-ltb, le-ltb}
+use native.Mathlib.Nat.{add-mul, le-antisymm}
 use lib.Dec.{eqb}
 use lib.ListN.{length, getD, take, drop, length-take, length-drop, List·getD-eq-default}
 use lib.Seq.{getD-take, getD-drop}
@@ -14,37 +13,36 @@ use mir.Syntax.{w64}
 use mir.Val.{Fits}
 use Rattle.outcome.proofs.OutcomeLaws.{below-or}
 use Rattle.parse_buffer.specs.Bytes.{byteAt}
-use Rattle.paged.specs.PageSize.{PageSize, need}
+use Rattle.paged.specs.PageSize.{need}
 use Rattle.header.specs.Header.{bigMagic}
 use Rattle.stream.specs.Stream.{absent, pagesOf}
 use Rattle.store.specs.Putting.{Putting}
-use Rattle.container_layout.specs.Place.{dataPage, pagesWith, after}
-use Rattle.container_layout.specs.Layout.{presentBytes, bytesUpTo, pagesUpTo, streamPages, directoryPages, locationPage, pagesUsed}
-use Rattle.container_layout.specs.Container.{numberBytes, headerNumbers, headerByte, streamByte, directoryNumbers, locationNumbers, dataByte, container}
+use Rattle.container_layout.specs.Place.{pagesWith, after}
+use Rattle.container_layout.specs.Layout.{presentBytes, bytesUpTo, pagesUpTo}
+use Rattle.container_layout.specs.Container.{numberBytes, headerNumbers, headerByte, dataByte, container}
 use Rattle.container_layout.specs.Inner.{Sized}
 use Rattle.container_layout.specs.declared.layout.Layout.{Layout}
-use Rattle.container_layout.proofs.PlaceLaws.{times-up, times-le, data-rises-le, after-one, after-most, after-some, after-rises}
+use Rattle.container_layout.proofs.PlaceLaws.{times-le, after-one, after-some, after-rises}
 use Rattle.container_layout.proofs.LayoutLaws.{bytes-next, bytes-rise, pages-next, pages-rise, size-fours}
-use Rattle.container_layout.proofs.ContainerLaws.{data-stream, data-directory, data-location, container-header, container-pages}
-use Rattle.container_layout.proofs.PlannedLaws.{padding-zero}
-use Rattle.container_pages.specs.Inner.{Filled, Within, Bounds, Laid, numbersFrom, mapOf}
+use Rattle.container_layout.proofs.ContainerLaws.{header-magic, header-number, stream-inside, stream-past, data-stream, container-pages}
+use Rattle.container_pages.specs.Inner.{Filled, Laid, numbersFrom, mapOf}
 use Rattle.container_pages.proofs.FillLaws.{filled-none, filled-more, filled-as, filled-put}
 use Rattle.container_pages.proofs.NumberLaws.{laid-streams, laid-directory, laid-last, laid-used, laid-ranks}
-use Rattle.container_writer.specs.Inner.{Room, part, PartFilled, Streaming, Numbering, Given, Streams}
+use Rattle.container_writer.specs.Inner.{Room, PartFilled, Streaming, Given, Streams}
 use Rattle.container_writer.proofs.PartLaws.{size-three, same-pages, laid-bounds}
 use Rattle.container_writer.proofs.StreamLaws.{need-none}
 
 -- ---- `write_header`
 module _ {l : Layout} {sizes : List ℕ} (d : Laid l sizes) {o o₁ o₂ : List ℕ} {r : ℕ} (p : Putting bigMagic o 0 o₁ r) (x : Filled (numbersFrom (headerNumbers (l .pagesize) sizes) 0 32) o₁ 32 (32 + 4 * ((l .pagesize - 32) / 4)) o₂) where
   is-magic : (i : ℕ) → 0 ≤ i → i < r → getD bigMagic (i - 0) 0 ≡ headerByte (l .pagesize) sizes i
-  unfolding headerByte
   is-magic i _ h =
-      let e : i - 0 ≡ i = omega arith in rw (lt-ltb i 32 (omega (arith, p .place)), e)
+      let e : i - 0 ≡ i = omega arith in
+      ap (byteAt bigMagic) e ∙ sym (header-magic (l .pagesize) sizes i (omega (arith, p .place)))
 
   is-number : (i : ℕ) → 32 ≤ i → i < 32 + 4 * ((l .pagesize - 32) / 4) → numbersFrom (headerNumbers (l .pagesize) sizes) 0 32 i ≡ headerByte (l .pagesize) sizes i
-  unfolding headerByte
   is-number i h _ =
-      let e : 4 * 0 + (i - 32) ≡ i - 32 = omega arith in rw (le-ltb i 32 h, e)
+      let e : 4 * 0 + (i - 32) ≡ i - 32 = omega arith in
+      ap (numberBytes (headerNumbers (l .pagesize) sizes)) e ∙ sym (header-number (l .pagesize) sizes i h)
 
   pub header-written : Filled (headerByte (l .pagesize) sizes) o 0 (l .pagesize) o₂
   header-written =
@@ -150,17 +148,16 @@ module _ {l : Layout} {sizes bytes o o₁ : List ℕ} (d : Laid l sizes) (v : Gi
 
     -- a byte of the stream, and zeros after it
     same : (y : ℕ) → y < pagesOf (l .pagesize) (getD sizes k 0) * l .pagesize → byteAt (take (at + n - at) (drop at bytes)) y ≡ dataByte (l .pagesize) sizes bytes (r * l .pagesize + y)
-    unfolding streamByte
     same y h =
         let place : pagesUpTo (l .pagesize) sizes k * l .pagesize + y ≡ r * l .pagesize + y = omega (arith, ap (λ q. q * l .pagesize) (w .pages-are)) in
         let there = data-stream (l .pagesize) (size-three (d .size)) sizes bytes k m y h in
         ⊎-elim
         (λ (z : y < n).
         getD-take (at + n - at) (drop at bytes) y 0 (omega arith) ∙ getD-drop at bytes y 0 ∙ ap (λ q. byteAt bytes (q + y)) (w .bytes-are)
-        ∙ sym (sym (ap (dataByte (l .pagesize) sizes bytes) place) ∙ there ∙ rw (lt-ltb y (presentBytes (getD sizes k 0)) (omega (arith, e .is)))))
+        ∙ sym (sym (ap (dataByte (l .pagesize) sizes bytes) place) ∙ there ∙ stream-inside sizes bytes k y (omega (arith, e .is))))
         (λ (z : n ≤ y).
         List·getD-eq-default (take (at + n - at) (drop at bytes)) 0 (rw own z)
-        ∙ sym (sym (ap (dataByte (l .pagesize) sizes bytes) place) ∙ there ∙ rw (le-ltb y (presentBytes (getD sizes k 0)) (omega (arith, e .is)))))
+        ∙ sym (sym (ap (dataByte (l .pagesize) sizes bytes) place) ∙ there ∙ stream-past sizes bytes k y (omega (arith, e .is))))
         (below-or y n)
 
     pub streams-more : {o₂ : List ℕ} {next : ℕ} → Streaming l r (take (at + n - at) (drop at bytes)) o₁ next o₂ → Streams-so-far l sizes bytes o o₂ (k + 1) (at + n) next

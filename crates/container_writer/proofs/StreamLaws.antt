@@ -1,8 +1,8 @@
 -- A stream copied a run at a time: what stands in the store after i bytes, and that all of them fill its pages.
-use mathlib.Core.Path.{_≡_, refl, sym, _∙_, ap}
-use mathlib.Core.Logic.{⊎-elim, _⊎_, inl, inr}
+use mathlib.Core.Path.{_≡_, sym, _∙_, ap}
+use mathlib.Core.Logic.{⊎-elim, _⊎_}
 use mathlib.Core.List.{List}
-use Prim.Native.Nat.{ℕ, zero, suc, _+_, _-_, _*_, _/_, _%_, _^_, min, _≤_, _<_}
+use Prim.Native.Nat.{ℕ, _+_, _-_, _*_, _/_, _%_, _^_, min, _≤_, _<_}
 use native.Mathlib.Omega.{arith}
 use native.Mathlib.Nat.{add-mul, mod-lt, mul-add-div-right, le-antisymm, div-eq-of-lt}
 use lib.ListN.{length, getD, take, drop, length-take, length-drop, List·getD-eq-default}
@@ -11,10 +11,9 @@ use mir.Syntax.{w64}
 use mir.Val.{Fits}
 use Rattle.outcome.proofs.OutcomeLaws.{below-or}
 use Rattle.parse_buffer.specs.Bytes.{byteAt}
-use Rattle.paged.specs.PageSize.{PageSize, need}
+use Rattle.paged.specs.PageSize.{need}
 use Rattle.paged.proofs.SizeLaws.{need-le, need-covers, need-least, need-rises, at-most-largest}
 use Rattle.store.specs.Putting.{Putting}
-use Rattle.store.proofs.PutLaws.{part-place}
 use Rattle.container_layout.specs.Place.{dataPage, after}
 use Rattle.container_layout.specs.declared.layout.Layout.{Layout}
 use Rattle.container_layout.proofs.PlaceLaws.{times-le, data-next, after-one, after-most, after-rises}

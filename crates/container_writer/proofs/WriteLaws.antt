@@ -4,22 +4,22 @@ use mathlib.Core.Logic.{⊎-elim}
 use mathlib.Core.List.{List, []}
 use Prim.Native.Nat.{ℕ, zero, suc, _+_, _-_, _*_, _/_, _%_, _^_, _≤_, _<_}
 use native.Mathlib.Omega.{arith}
-use native.Mathlib.Nat.{add-mul, div-add-mod', div-mul-le-self, mod-lt, le-div-iff-mul-le, div-lt-iff-lt-mul, mul-left-comm}
+use native.Mathlib.Nat.{div-add-mod', div-mul-le-self, mod-lt, le-div-iff-mul-le, div-lt-iff-lt-mul, mul-left-comm}
 use borrow.Author.Tests.{le-leb, lt-leb}
 use lib.ListN.{length, getD, length-append, List·getD-append}
 use lib.Seq.{sets, getD-at}
 use mir.Syntax.{w64}
 use mir.Val.{Fits}
-use Rattle.outcome.specs.Outcome.{ok, refused, _>>=_, _>>_, require}
+use Rattle.outcome.specs.Outcome.{ok, refused, _>>_, require}
 use Rattle.outcome.specs.Store.{written}
 use Rattle.outcome.proofs.OutcomeLaws.{below-or}
 use Rattle.parse_buffer.specs.Bytes.{File}
-use Rattle.paged.specs.PageSize.{PageSize, need}
+use Rattle.paged.specs.PageSize.{need}
 use Rattle.paged.proofs.SizeLaws.{at-most-largest}
 use Rattle.store.proofs.SetsLaws.{sets-by-entries}
-use Rattle.container_layout.specs.Place.{dataPage, after}
-use Rattle.container_layout.specs.Layout.{streamPages, directorySize, directoryPages, locationPage, pagesUsed, fileLength}
-use Rattle.container_layout.specs.Container.{numberBytes, headerByte, directoryNumbers, locationNumbers, dataByte, container}
+use Rattle.container_layout.specs.Place.{after}
+use Rattle.container_layout.specs.Layout.{directorySize, directoryPages, fileLength}
+use Rattle.container_layout.specs.Container.{numberBytes, headerByte, directoryNumbers, locationNumbers, container}
 use Rattle.container_layout.specs.Refusal.{refusalIn}
 use Rattle.container_layout.specs.Planning.{layoutOf, planning}
 use Rattle.container_layout.specs.Inner.{Short, plannedIn, whyPlanned, Planning}
@@ -32,7 +32,7 @@ use Rattle.container_layout.proofs.PlaceLaws.{times-le, after-rises, after-some
 use Rattle.container_layout.proofs.LayoutLaws.{size-fours}
 use Rattle.container_layout.proofs.ContainerLaws.{data-directory, data-location, container-header}
 use Rattle.container_layout.proofs.PlannedLaws.{Plan, plan-of, padding-zero}
-use Rattle.container_pages.specs.Inner.{Filled, Within, Bounds, Laid}
+use Rattle.container_pages.specs.Inner.{Filled, Within, Laid}
 use Rattle.container_pages.proofs.FillLaws.{filled-more, filled-as}
 use Rattle.container_pages.proofs.NumberLaws.{laid-streams, laid-directory, laid-last, laid-used, laid-ranks}
 use Rattle.container_writer.specs.Writing.{firstBytes, writing}

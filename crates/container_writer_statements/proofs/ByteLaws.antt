@@ -1,5 +1,4 @@
--- The file's definitions, byte by byte: the header's page, a stream's bytes, the bits of a map page's byte, and what does
--- not depend on the input.
+-- The file's definitions, byte by byte: the bits of a map page's byte, and what does not depend on the input.
 use mathlib.Core.Path.{_≡_, _∙_, ap}
 use mathlib.Core.Bool.{Bool, true, false, cond}
 use mathlib.Core.Logic.{_⊎_, inl, inr, ⊎-elim}
@@ -7,41 +6,13 @@ use mathlib.Core.List.{List}
 use Prim.Native.Nat.{ℕ, zero, suc, _+_, _-_, _*_, _/_, _%_, _^_, _≤_, _<_}
 use native.Mathlib.Omega.{arith}
 use native.Mathlib.Nat.{pow-suc, pow-succ', add-mul-div-right, add-zero}
-use borrow.Author.Tests.{eq-eqb, lt-ltb, le-ltb, ne-eqb}
-use lib.ListN.{getD}
+use borrow.Author.Tests.{eq-eqb, le-ltb, ne-eqb}
 use lib.Pow.{pow-add, pow-pos}
 use Rattle.outcome.proofs.OutcomeLaws.{by-test, below-or}
-use Rattle.parse_buffer.specs.Bytes.{byteAt}
-use Rattle.header.specs.Header.{bigMagic}
-use Rattle.stream.specs.Stream.{absent}
 use Rattle.container_layout.specs.Place.{pagesWith}
-use Rattle.container_layout.specs.Layout.{presentBytes, bytesUpTo, streamPages, isPadding}
-use Rattle.container_layout.specs.Container.{numberBytes, headerNumbers, magicLength, headerByte, bits, mapByte, streamByte, dataByte}
+use Rattle.container_layout.specs.Layout.{streamPages, isPadding}
+use Rattle.container_layout.specs.Container.{bits, mapByte, dataByte}
 use Rattle.container_layout.proofs.PlaceLaws.{page-of, divides}
-
--- ---- the header's page: the magic, and numbers after it
-module _ (p : ℕ) (sizes : List ℕ) (i : ℕ) where
-  pub header-magic : i < magicLength → headerByte p sizes i ≡ byteAt bigMagic i
-  unfolding headerByte
-  header-magic l = rw (lt-ltb i magicLength l)
-
-  pub header-number : magicLength ≤ i → headerByte p sizes i ≡ numberBytes (headerNumbers p sizes) (i - magicLength)
-  unfolding headerByte
-  header-number l = rw (le-ltb i magicLength l)
-
--- ---- a stream's bytes, and zeros after them
-pub present-size : (size : ℕ) → (size ≡ absent → ⊥) → size ≡ presentBytes size
-unfolding presentBytes
-present-size size h = rw (ne-eqb size absent h)
-
-module _ (sizes bytes : List ℕ) (k i : ℕ) where
-  pub stream-inside : i < presentBytes (getD sizes k 0) → streamByte sizes bytes k i ≡ byteAt bytes (bytesUpTo sizes k + i)
-  unfolding streamByte
-  stream-inside l = rw (lt-ltb i (presentBytes (getD sizes k 0)) l)
-
-  pub stream-past : presentBytes (getD sizes k 0) ≤ i → streamByte sizes bytes k i ≡ 0
-  unfolding streamByte
-  stream-past l = rw (le-ltb i (presentBytes (getD sizes k 0)) l)
 
 -- ---- a number by its bits, lowest first
 -- a power of 2 more, or none: the quotient by it is that bit, and lower bits stay
@@ -78,20 +49,6 @@ module _ (one : ℕ → Bool) where
 pub map-bit : (p last used q x b : ℕ) → b < 8 → mapByte p last used q x / 2 ^ b % 2 ≡ cond (isPadding last used (8 * (q * p + x) + b)) 1 0
 unfolding mapByte
 map-bit p last used q x b l = bits-at (λ c. isPadding last used (8 * (q * p + x) + c)) 8 b l
-
-module _ (last used n : ℕ) where
-  pub padding-yes : last < n → n < used → isPadding last used n ≡ true
-  unfolding isPadding
-  padding-yes l m = rw (lt-ltb last n l, lt-ltb n used m)
-
-  pub padding-not : ((last < n) × (n < used) → ⊥) → isPadding last used n ≡ false
-  unfolding isPadding
-  padding-not none =
-      ⊎-elim
-      (λ (l : last < n).
-      ⊎-elim (λ (m : n < used). absurd (none (l, m))) (λ (m : used ≤ n). rw (lt-ltb last n l, le-ltb n used m)) (below-or n used))
-      (λ (l : n ≤ last). rw (le-ltb last n l))
-      (below-or last n)
 
 -- ---- what does not depend on the input: the data after the streams, and a map page and the page after it
 pub later-same : (p : ℕ) (sizes s t : List ℕ) (i : ℕ) → streamPages p sizes * p ≤ i → dataByte p sizes s i ≡ dataByte p sizes t i

@@ -12,11 +12,11 @@ use Rattle.container_layout.specs.Place.{pagesWith}
 use Rattle.container_layout.specs.Layout.{streamPages, directoryPages, locationPage, pagesUsed, isPadding}
 use Rattle.container_layout.specs.Container.{bits, mapByte, dataByte}
 use Rattle.container_layout.proofs.PlaceLaws.{times-up, data-least}
-use Rattle.container_layout.proofs.ContainerLaws.{with-map, with-zero, container-pages}
+use Rattle.container_layout.proofs.ContainerLaws.{padding-yes, padding-not, with-map, with-zero, container-pages}
 use Rattle.container_writer_statements.specs.Accepted.{Accepted, Holds}
 use Rattle.container_writer_statements.specs.Contents.{mapPage, bitOf, FreeMap}
 use Rattle.container_writer_statements.proofs.AcceptedLaws.{large, big, last-used, page-within}
-use Rattle.container_writer_statements.proofs.ByteLaws.{map-bit, padding-yes, padding-not}
+use Rattle.container_writer_statements.proofs.ByteLaws.{map-bit}
 
 module _ {p : ℕ} {sizes : List ℕ} {given : ℕ} (a : Accepted p sizes given) where
   map-within : (n : ℕ) → n < pagesUsed p sizes → mapPage p n < pagesUsed p sizes

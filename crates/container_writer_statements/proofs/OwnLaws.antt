@@ -16,12 +16,12 @@ use Rattle.container_layout.specs.Place.{rank, pagesWith}
 use Rattle.container_layout.specs.Layout.{presentBytes, pagesUpTo, streamPages, locationPage, pagesUsed}
 use Rattle.container_layout.specs.Container.{mapByte, streamByte, dataByte, container}
 use Rattle.container_layout.proofs.PlaceLaws.{times-up, times-le, data-rank}
-use Rattle.container_layout.proofs.ContainerLaws.{with-page, data-stream, container-header, container-pages, container-data}
+use Rattle.container_layout.proofs.ContainerLaws.{stream-inside, stream-past, with-page, data-stream, container-header, container-pages, container-data}
 use Rattle.container_writer_statements.specs.Accepted.{Accepted}
 use Rattle.container_writer_statements.specs.Roles.{Of-stream}
 use Rattle.container_writer_statements.specs.Contents.{Same-for, OwnBytes}
 use Rattle.container_writer_statements.proofs.AcceptedLaws.{large, big}
-use Rattle.container_writer_statements.proofs.ByteLaws.{stream-inside, stream-past, later-same, maps-same}
+use Rattle.container_writer_statements.proofs.ByteLaws.{later-same, maps-same}
 use Rattle.container_writer_statements.proofs.RoleLaws.{owned}
 
 module _ {p : ℕ} {sizes : List ℕ} {given : ℕ} (a : Accepted p sizes given) (s t : List ℕ) where

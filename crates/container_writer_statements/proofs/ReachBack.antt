@@ -24,9 +24,9 @@ use Rattle.directory.specs.Directory.{reached, holds, streamCount}
 use Rattle.container_layout.specs.Place.{dataPage}
 use Rattle.container_layout.specs.Layout.{streamPages, directorySize, directoryPages, pagesUsed, fileLength}
 use Rattle.container_layout.proofs.PlaceLaws.{data-least}
+use Rattle.container_layout.proofs.ContainerLaws.{header-magic}
 use Rattle.container_writer_statements.specs.Accepted.{Accepted, Holds}
 use Rattle.container_writer_statements.proofs.AcceptedLaws.{plan, large, big, some, block-within, data-used, data-within, header-back}
-use Rattle.container_writer_statements.proofs.ByteLaws.{header-magic}
 use Rattle.container_writer_statements.proofs.WordsBack.{words-back, location-back, list-back, count-back}
 
 -- ---- places that all pass

@@ -28,11 +28,10 @@ use Rattle.msf.specs.Extraction.{bytesIn, extraction, lengthIn}
 use Rattle.msf.proofs.CopyLaws.{through-length, through-at}
 use Rattle.container_layout.specs.Layout.{presentBytes, bytesUpTo, pagesUpTo}
 use Rattle.container_layout.proofs.LayoutLaws.{pages-cover, bytes-next, bytes-rise}
-use Rattle.container_layout.proofs.ContainerLaws.{data-stream}
+use Rattle.container_layout.proofs.ContainerLaws.{present-size, stream-inside, data-stream}
 use Rattle.container_writer_statements.specs.Accepted.{Accepted, Holds}
 use Rattle.container_writer_statements.specs.ReadBack.{givenSize, givenLength, givenBytes, writtenSlices, givenMapping, ReadBack}
 use Rattle.container_writer_statements.proofs.AcceptedLaws.{plan, large, big, through-back}
-use Rattle.container_writer_statements.proofs.ByteLaws.{present-size, stream-inside}
 use Rattle.container_writer_statements.proofs.ReachBack.{opening-back, stream-count-back}
 use Rattle.container_writer_statements.proofs.FoundBack.{Given, given, given-pages, onward, foundAs, pages-within, own-back, asked-back, readable-back}
 

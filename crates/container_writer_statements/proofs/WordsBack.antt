@@ -16,11 +16,10 @@ use Rattle.container_layout.specs.Place.{dataPage}
 use Rattle.container_layout.specs.Layout.{pagesUpTo, streamPages, directorySize, directoryPages, locationPage}
 use Rattle.container_layout.specs.Container.{numberBytes, headerNumbers, directoryNumbers, locationNumbers, dataByte}
 use Rattle.container_layout.proofs.PlaceLaws.{divides, times-up, pages-at}
-use Rattle.container_layout.proofs.ContainerLaws.{number-byte, data-directory, data-location}
+use Rattle.container_layout.proofs.ContainerLaws.{header-number, number-byte, data-directory, data-location}
 use Rattle.container_writer_statements.specs.Accepted.{Accepted, Holds}
 use Rattle.container_writer_statements.specs.Contents.{Header-words, HeaderWords}
 use Rattle.container_writer_statements.proofs.AcceptedLaws.{plan, large, big, used-word, last-used, data-used, data-word, header-back, data-back}
-use Rattle.container_writer_statements.proofs.ByteLaws.{header-number}
 
 -- ---- a word whose four bytes are those of a number of 32 bits
 pub word-back : (f : File) (at : ℕ) (numbers : List ℕ) (w : ℕ) → ((j : ℕ) → j < 4 → f (at + j) ≡ numberBytes numbers (4 * w + j)) → getD numbers w 0 < 2 ^ 32 → word f at ≡ getD numbers w 0

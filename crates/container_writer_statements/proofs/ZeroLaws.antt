@@ -15,12 +15,11 @@ use Rattle.container_layout.specs.Container.{headerNumbers, directoryNumbers, l
 use Rattle.container_layout.proofs.PlaceLaws.{pages-length}
 use Rattle.container_layout.proofs.LayoutLaws.{pages-next, pages-rise}
 use Rattle.container_layout.proofs.PlannedLaws.{number-past, padding-zero}
-use Rattle.container_layout.proofs.ContainerLaws.{data-stream, data-directory, data-location}
+use Rattle.container_layout.proofs.ContainerLaws.{header-number, stream-past, data-stream, data-directory, data-location}
 use Rattle.container_writer_statements.specs.Accepted.{Accepted, Holds}
 use Rattle.container_writer_statements.specs.Roles.{padding, Has}
 use Rattle.container_writer_statements.specs.Contents.{Zeros}
 use Rattle.container_writer_statements.proofs.AcceptedLaws.{plan, large, big, last-used, page-within, header-back, data-back, through-back}
-use Rattle.container_writer_statements.proofs.ByteLaws.{header-number, stream-past}
 
 module _ {p : ℕ} {sizes bytes : List ℕ} (a : Accepted p sizes (length bytes)) {f : File} {len : ℕ} (h : Holds f len p sizes bytes) where
   header-zero : (i : ℕ) → 56 ≤ i → i < p → f i ≡ 0

@@ -1,7 +1,7 @@
 -- The ones below pages_used, less those up to the last data page.
 -- Assumes that pages_used has 32 bits and the last data page is below it.
 use borrow.Author.Needs.{needs}
-use Rattle.container_pages.proofs.MapLaws.{free-order, freed, last-fits}
+use Rattle.container_pages.proofs.MapLaws.{free-order, freed}
 use Rattle.container_pages.proofs.maps.free_bits.Statement.{statement}
 use Rattle.container_pages.proofs.maps.free_bits.Tie as tie
 

@@ -1,7 +1,7 @@
 -- The count, a size, a page number or nothing, by where the number stands.
 -- Assumes the layout of these sizes, and a number of 32 bits.
 use borrow.Author.Needs.{needs}
-use Rattle.container_pages.proofs.NumberLaws.{directory-cases, page-fits, laid-size}
+use Rattle.container_pages.proofs.NumberLaws.{directory-cases, page-fits}
 use Rattle.container_pages.proofs.numbers.directory_number.Statement.{statement}
 use Rattle.container_pages.proofs.numbers.directory_number.Tie as tie
 

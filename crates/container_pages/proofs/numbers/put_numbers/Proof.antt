@@ -4,7 +4,7 @@ use Prim.Native.Nat.{_-_}
 use borrow.Author.Needs.{needs}
 use Rattle.store.proofs.PutLaws.{put-length}
 use Rattle.container_pages.specs.Inner.{numbersOf}
-use Rattle.container_pages.proofs.NumberLaws.{Numbers-so-far, numbers-cases, numbers-more, numbers-room, numbers-small, numbers-index}
+use Rattle.container_pages.proofs.NumberLaws.{Numbers-so-far, numbers-cases, numbers-more, numbers-room, numbers-small}
 use Rattle.container_pages.proofs.numbers.put_numbers.Statement.{statement}
 use Rattle.container_pages.proofs.numbers.put_numbers.Tie as tie
 
