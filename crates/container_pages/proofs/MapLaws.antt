@@ -178,14 +178,20 @@ module _ {l : Layout} (b : Bounds l) (r : ℕ) {at : ℕ} (o : List ℕ) (e : at
         maps = λ body. rw (e, ← after-next (l .pagesize) big r some) (filled-none _ o (dataPage (l .pagesize) r * l .pagesize));
       }
 
+  pub begin-order : 2 * l .pagesize ≤ at
+  begin-order =
+      let d = data-least (l .pagesize) big r in
+      omega (arith, times-le (l .pagesize) {a = 2} {b = dataPage (l .pagesize) r} (omega arith))
+
+  pub begin-map : dataPage (l .pagesize) r * l .pagesize ≤ length o → at - 2 * l .pagesize + l .pagesize ≤ length o
+  begin-map h = omega (arith, begin-order)
+
+  pub begin-within : {o₁ : List ℕ} → dataPage (l .pagesize) r * l .pagesize ≤ length o → Filled (mapFrom l (r / (l .pagesize - 2)) (at - 2 * l .pagesize)) o (at - 2 * l .pagesize) (at - 2 * l .pagesize + l .pagesize) o₁ → Within (at - 2 * l .pagesize + l .pagesize) at (length o₁)
+  begin-within h x = record { order = omega (arith, begin-order); fits = rw (x .same, e) h }
+
   module _ (z : r % (l .pagesize - 2) ≡ 0) where
     pair : (dataPage (l .pagesize) r ≡ after (l .pagesize) r + 2) × (after (l .pagesize) r ≡ r / (l .pagesize - 2) * l .pagesize + 1)
     pair = after-maps (l .pagesize) big r z
-
-    pub begin-order : 2 * l .pagesize ≤ at
-    begin-order =
-        let d = data-least (l .pagesize) big r in
-        omega (arith, times-le (l .pagesize) {a = 2} {b = dataPage (l .pagesize) r} (omega arith))
 
     start : at - 2 * l .pagesize ≡ (r / (l .pagesize - 2) * l .pagesize + 1) * l .pagesize
     start =
@@ -199,12 +205,6 @@ module _ {l : Layout} (b : Bounds l) (r : ℕ) {at : ℕ} (o : List ℕ) (e : at
         let a = add-mul (r / (l .pagesize - 2) * l .pagesize) 1 (l .pagesize) in
         let c = add-mul (r / (l .pagesize - 2) * l .pagesize) 2 (l .pagesize) in
         omega (arith, start)
-
-    pub begin-map : dataPage (l .pagesize) r * l .pagesize ≤ length o → at - 2 * l .pagesize + l .pagesize ≤ length o
-    begin-map h = omega (arith, begin-order)
-
-    pub begin-within : {o₁ : List ℕ} → dataPage (l .pagesize) r * l .pagesize ≤ length o → Filled (mapFrom l (r / (l .pagesize - 2)) (at - 2 * l .pagesize)) o (at - 2 * l .pagesize) (at - 2 * l .pagesize + l .pagesize) o₁ → Within (at - 2 * l .pagesize + l .pagesize) at (length o₁)
-    begin-within h x = record { order = omega (arith, begin-order); fits = rw (x .same, e) h }
 
     module _ (body : ℕ → ℕ) where
       is-map : (i : ℕ) → at - 2 * l .pagesize ≤ i → i < at - 2 * l .pagesize + l .pagesize → mapFrom l (r / (l .pagesize - 2)) (at - 2 * l .pagesize) i ≡ pagesWith (l .pagesize) (mapOf l) body i
