@@ -1,7 +1,7 @@
 // The pages of a container that are not copied, written into a lent store where they lie in the file.
 //
 // fill.rt: zeros and numbers. numbers.rt: pages of numbers, which are the header's, the directory's and the location
-// list's. maps.rt: the free-map pages, and the pages of any part in file order.
+// list's. maps.rt: the free-map pages, and where the data pages behind them begin.
 mod fill;
 mod maps;
 mod numbers;

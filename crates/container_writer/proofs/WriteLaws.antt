@@ -4,7 +4,7 @@ use mathlib.Core.Logic.{⊎-elim}
 use mathlib.Core.List.{List, []}
 use Prim.Native.Nat.{ℕ, zero, suc, _+_, _-_, _*_, _/_, _%_, _^_, _≤_, _<_}
 use native.Mathlib.Omega.{arith}
-use native.Mathlib.Nat.{div-add-mod', div-mul-le-self, mod-lt, le-div-iff-mul-le, div-lt-iff-lt-mul, mul-left-comm}
+use native.Mathlib.Nat.{div-add-mod', div-mul-le-self, mod-lt, le-div-iff-mul-le, div-lt-iff-lt-mul, mul-le-mul, mul-left-comm}
 use borrow.Author.Tests.{le-leb, lt-leb}
 use lib.ListN.{length, getD, length-append, List·getD-append}
 use lib.Seq.{sets, getD-at}
@@ -91,8 +91,11 @@ module _ {l : Layout} {sizes : List ℕ} (d : Laid l sizes) where
       let e : l .directory * l .pagesize ≡ 4 * (l .directory * (l .pagesize / 4)) = ap (λ n. l .directory * n) fours ∙ mul-left-comm (l .directory) 4 (l .pagesize / 4) in
       omega (arith, d .small, ap (λ n. n * l .pagesize) (laid-directory d), div-mul-le-self (directorySize (l .pagesize) sizes + l .pagesize - 1) (l .pagesize))
 
-  pub location-few : 1 * (l .pagesize / 4) < 2 ^ 32
-  location-few = let m = d .size .most in omega arith
+  pub location-few : (n : ℕ) → n ≤ 2 ^ 8 → n * (l .pagesize / 4) < 2 ^ 32
+  location-few n h =
+      let m = d .size .most in
+      let q : l .pagesize / 4 ≤ 2 ^ 21 = omega arith in
+      omega (arith, mul-le-mul h q)
 
 -- ---- `write_data`
 module _ {l : Layout} {sizes : List ℕ} (d : Laid l sizes) {o : List ℕ} (h : l .used * l .pagesize ≤ length o) {bytes o₂ : List ℕ} (s : Streams l sizes bytes o o₂) where

@@ -15,7 +15,7 @@ add-write-numbers : tie.Need-add-write-numbers
 add-write-numbers c = search ranks-fit
 
 write-numbers-requires-2 : tie.Need-write-numbers-requires-2
-write-numbers-requires-2 c κs = (search needs, (search location-few, search location-room))
+write-numbers-requires-2 c κs = (search needs, (search (location-few, needs), search location-room))
 
 same-length : tie.Need-same-length
 same-length c = search data-length
