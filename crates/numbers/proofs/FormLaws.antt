@@ -5,26 +5,26 @@ use mathlib.Core.List.{List}
 use Prim.Native.Nat.{ℕ, _+_, _-_, _*_, _%_, _^_, _≤_, _<_}
 use native.Mathlib.Omega.{arith}
 use borrow.Author.Tests.{leb-true, leb-false, le-ltb, lt-ltb, le-leb, lt-leb}
-use lib.Dec.{leb, ltb}
+use lib.Dec.{eqb, leb, ltb}
 use lib.ListN.{length, getD}
 use Rattle.outcome.specs.Outcome.{Outcome, ok, refused}
 use Rattle.outcome.proofs.OutcomeLaws.{by-test}
 use Rattle.numbers.specs.Refusal.{Stop, stop}
-use Rattle.numbers.specs.Number.{numberAt}
+use Rattle.numbers.specs.Number.{shortWidth, isShortest, numberOf, numberAt}
 use Rattle.numbers.specs.Inner.{Byte, widthOf, Width, Value, Why}
 use Rattle.numbers.specs.declared.refusal.Refusal.the-variants.{ShortData, InvalidCompressedAnnotation}
 use Rattle.numbers.specs.declared.number.Number.{Number}
 
 -- ---- the three forms of a number
 abbrev oneAt : List ℕ → ℕ → Number
-oneAt s at = record { value = getD s at 0; next = at + 1 }
+oneAt s at = numberOf at 1 (getD s at 0)
 
 abbrev twoAt : List ℕ → ℕ → Number
-twoAt s at = record { value = getD s at 0 % 64 * 256 + getD s (at + 1) 0; next = at + 2 }
+twoAt s at = numberOf at 2 (getD s at 0 % 64 * 256 + getD s (at + 1) 0)
 
 abbrev fourAt : List ℕ → ℕ → Number
 fourAt s at =
-    record { value = getD s at 0 % 32 * 2 ^ 24 + getD s (at + 1) 0 * 2 ^ 16 + getD s (at + 2) 0 * 2 ^ 8 + getD s (at + 3) 0; next = at + 4 }
+    numberOf at 4 (getD s at 0 % 32 * 2 ^ 24 + getD s (at + 1) 0 * 2 ^ 16 + getD s (at + 2) 0 * 2 ^ 8 + getD s (at + 3) 0)
 
 -- (A `data` type, not a function by cases: it can be matched before the choice is computed.)
 pub data Form (s : List ℕ) (at : ℕ) : Outcome Stop Number → Type 0 where
@@ -102,7 +102,7 @@ module _ (s : List ℕ) (at : ℕ) {w : ℕ} (d : Width s at w) (n : w ≡ 0 →
   unfolding widthOf
   by-width P f g h = go (numberAt s at) (form-at s at) (d .is)
     where
-      go : (o : Outcome Stop Number) → Form s at o → w ≡ widthOf at o → P o w
+      go : (o : Outcome Stop Number) → Form s at o → w ≡ widthOf o → P o w
       go _ (one l) e = let r : w ≡ 1 = omega arith in rw r (f l)
       go _ (two l) e = let r : w ≡ 2 = omega arith in rw r (g l)
       go _ (four l) e = let r : w ≡ 4 = omega arith in rw r (h l)
@@ -116,24 +116,44 @@ module _ (s : List ℕ) (at : ℕ) {w : ℕ} (d : Width s at w) (n : w ≡ 0 →
       (λ l a b. absurd (a refl)) (λ l a b. absurd (b refl)) (λ l a b. omega arith)
 
   -- there is a number
-  pub number-there : (v : ℕ) × (numberAt s at ≡ ok (record { value = v; next = at + w }))
+  pub number-there : (v : ℕ) × (numberAt s at ≡ ok (numberOf at w v))
   number-there =
-      by-width (λ o w. (v : ℕ) × (o ≡ ok (record { value = v; next = at + w }))) (λ l. (_, refl)) (λ l. (_, refl)) (λ l. (_, refl))
+      by-width (λ o w. (v : ℕ) × (o ≡ ok (numberOf at w v))) (λ l. (_, refl)) (λ l. (_, refl)) (λ l. (_, refl))
 
   module _ {b1 : ℕ} (i : Byte s at b1) where
     pub value-one : w ≡ 1 → Value s at w b1
     value-one e =
-        record { is = by-width (λ o w. w ≡ 1 → o ≡ ok (record { value = b1; next = at + w })) (λ l e. rw (i .is)) (λ l e. absurd (omega arith)) (λ l e. absurd (omega arith)) e }
+        record { is = by-width (λ o w. w ≡ 1 → o ≡ ok (numberOf at w b1)) (λ l e. rw (i .is)) (λ l e. absurd (omega arith)) (λ l e. absurd (omega arith)) e }
 
     pub value-two : {b2 v : ℕ} → Byte s (at + 1) b2 → w ≡ 2 → v ≡ b1 % 64 * 256 + b2 → Value s at w v
     value-two {v = v} i2 e r =
-        record { is = by-width (λ o w. w ≡ 2 → o ≡ ok (record { value = v; next = at + w })) (λ l e. absurd (omega arith)) (λ l e. rw (r, i .is, i2 .is)) (λ l e. absurd (omega arith)) e }
+        record { is = by-width (λ o w. w ≡ 2 → o ≡ ok (numberOf at w v)) (λ l e. absurd (omega arith)) (λ l e. rw (r, i .is, i2 .is)) (λ l e. absurd (omega arith)) e }
 
     pub value-four : {b2 b3 b4 v : ℕ} → (w ≡ 1 → ⊥) → (w ≡ 2 → ⊥) → Byte s (at + 1) b2 → Byte s (at + 2) b3 → Byte s (at + 3) b4 → v ≡ b1 % 32 * 2 ^ 24 + b2 * 2 ^ 16 + b3 * 2 ^ 8 + b4 → Value s at w v
     value-four {v = v} a b i2 i3 i4 r =
-        record { is = by-width (λ o w. (w ≡ 1 → ⊥) → (w ≡ 2 → ⊥) → o ≡ ok (record { value = v; next = at + w })) (λ l a b. absurd (a refl)) (λ l a b. absurd (b refl)) (λ l a b. rw (r, i .is, i2 .is, i3 .is, i4 .is)) a b }
+        record { is = by-width (λ o w. (w ≡ 1 → ⊥) → (w ≡ 2 → ⊥) → o ≡ ok (numberOf at w v)) (λ l a b. absurd (a refl)) (λ l a b. absurd (b refl)) (λ l a b. rw (r, i .is, i2 .is, i3 .is, i4 .is)) a b }
 
 pub ruleset value-cases = (value-one, value-two, value-four)
+
+-- ---- the ways out of `short_width`
+module _ (v : ℕ) where
+  pub shortest-one : v < 0x80 → 1 ≡ shortWidth v
+  unfolding shortWidth
+  shortest-one h = rw (lt-ltb v 0x80 h)
+
+  pub shortest-two : 0x80 ≤ v → v < 0x4000 → 2 ≡ shortWidth v
+  unfolding shortWidth
+  shortest-two h k = rw (le-ltb v 0x80 h, lt-ltb v 0x4000 k)
+
+  pub shortest-four : 0x4000 ≤ v → 4 ≡ shortWidth v
+  unfolding shortWidth
+  shortest-four h = rw (le-ltb v 0x80 (omega arith), le-ltb v 0x4000 h)
+
+  -- and of `is_shortest`
+  pub shortest-is : (taken : ℕ) {r : ℕ} → r ≡ shortWidth v → eqb taken r ≡ isShortest v taken
+  shortest-is taken e = rw e
+
+pub ruleset shortest-cases = (shortest-one, shortest-two, shortest-four, shortest-is)
 
 -- ---- the ways out of `why_at`: with fewer than four bytes the data is short, and with four the first byte is invalid
 module _ (s : List ℕ) (at : ℕ) (d : Width s at 0) where
@@ -144,7 +164,7 @@ module _ (s : List ℕ) (at : ℕ) (d : Width s at 0) where
   unfolding widthOf
   by-refusal P f g = go (numberAt s at) (form-at s at) (d .is)
     where
-      go : (o : Outcome Stop Number) → Form s at o → 0 ≡ widthOf at o → P o
+      go : (o : Outcome Stop Number) → Form s at o → 0 ≡ widthOf o → P o
       go _ (one l) e = absurd (omega arith)
       go _ (two l) e = absurd (omega arith)
       go _ (four l) e = absurd (omega arith)

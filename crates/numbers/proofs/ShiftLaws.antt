@@ -20,7 +20,7 @@ abbrev pub laterStop : ℕ → Stop → Stop
 laterStop k x = record { refusal = x .refusal; place = k + x .place }
 
 unfoldable pub laterNumber : ℕ → Outcome Stop Number → Outcome Stop Number
-laterNumber k (ok n) = ok (record { value = n .value; next = k + n .next })
+laterNumber k (ok n) = ok (record { value = n .value; next = k + n .next; taken = n .taken; shortest = n .shortest })
 laterNumber k (refused why) = refused (laterStop k why)
 
 pub leb-later : (k x y : ℕ) → leb (k + x) (k + y) ≡ leb x y

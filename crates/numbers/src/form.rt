@@ -1,10 +1,12 @@
 // The three forms of a compressed number: one, two or four bytes, by the first byte. How many bytes a number takes, its
-// value, and why there is none, each as plain numbers: an answer that holds all three would go through memory.
+// value, whether fewer bytes would do, and why there is none, each as plain numbers: an answer that holds them all
+// would go through memory.
 use crate::refusal::PlacedRefusal;
 use crate::refusal::Refusal;
 ghost use mathlib.Core.Path.{_≡_};
 ghost use Prim.Native.Nat.{_+_, _*_, _%_, _^_, _<_};
 ghost use lib.ListN.{length};
+ghost use Rattle.numbers.specs.Number.{shortWidth, isShortest};
 ghost use Rattle.numbers.specs.Inner.{Byte, Width, Value, Why};
 
 // How many bytes the number at `at` takes. 0 if there is none.
@@ -52,6 +54,26 @@ pub fn value_at(bytes: &[u8], at: usize, width: usize) -> u32
     let b3 = byte_at(bytes, at + 2);
     let b4 = byte_at(bytes, at + 3);
     four_bytes(b1, b2, b3, b4)
+}
+
+// Whether the form of `width` bytes is the shortest that a value has.
+pub fn is_shortest(value: u32, width: usize) -> bool
+    ensures { λ r. ⌜ r ≡ isShortest value width ⌝ }
+{
+    width == short_width(value)
+}
+
+// How many bytes the shortest form of a value takes.
+pub fn short_width(value: u32) -> usize
+    ensures { λ r. ⌜ r ≡ shortWidth value ⌝ }
+{
+    if value < 0x80 {
+        return 1;
+    }
+    if value < 0x4000 {
+        return 2;
+    }
+    4
 }
 
 // Why there is no number at `at`. Four bytes are read before the first is judged, so with fewer it is 7, not 8.

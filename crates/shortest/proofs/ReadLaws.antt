@@ -4,34 +4,35 @@ use mathlib.Core.Bool.{Bool, true, false}
 use mathlib.Core.List.{List, [], _∷_, _++_}
 use Prim.Native.Nat.{ℕ, zero, suc, _+_, _*_, _/_, _%_, _^_, _≤_, _<_}
 use native.Mathlib.Omega.{arith}
-use native.Mathlib.Nat.{add-zero, div-div-eq-div-mul, div-add-mod'}
+use native.Mathlib.Nat.{add-zero, zero-add, div-div-eq-div-mul, div-add-mod'}
 use borrow.Author.Tests.{lt-ltb, le-ltb, ltb-true, ltb-false}
 use lib.Dec.{leb, ltb}
 use lib.ListN.{length, getD}
 use Rattle.outcome.specs.Outcome.{Outcome, ok, refused}
 use Rattle.outcome.proofs.OutcomeLaws.{by-test, ok-is, ok-refused}
 use Rattle.numbers.specs.Refusal.{Stop}
-use Rattle.numbers.specs.Number.{numberAt}
+use Rattle.numbers.specs.Number.{numberOf, numberAt}
+use Rattle.numbers.proofs.FormLaws.{shortest-one, shortest-two, shortest-four}
 use Rattle.numbers.proofs.PrefixLaws.{NumberKeeps, number-keeps}
 use Rattle.numbers.proofs.ShiftLaws.{laterNumber, number-later}
 use Rattle.numbers.specs.declared.number.Number.{Number}
-use Rattle.shortest.specs.Short.{short}
+use Rattle.shortest.specs.Short.{Bytes, short, shortNumber}
 use Rattle.shortest.proofs.ShortLaws.{width-one, width-two, width-four, short-most}
 
 -- ---- read back
 record Reads (n : ℕ) (b : List ℕ) : Type 0 where
-  is : numberAt b 0 ≡ ok (record { value = n; next = length b })
+  is : numberAt b 0 ≡ ok (record { value = n; next = 0 + length b; taken = length b; shortest = true })
 
 reads : (n : ℕ) → n < 2 ^ 29 → Reads n (short n)
 unfolding short numberAt
 reads n l =
-    by-test (Reads n) (ltb n 0x80) (λ h. record { is = simp h })
+    by-test (Reads n) (ltb n 0x80) (λ h. record { is = simp (h, ← shortest-one n (ltb-true _ _ h)) })
     (λ h. by-test (Reads n) (ltb n 0x4000)
     (λ k.
     let t : n < 0x4000 = ltb-true _ _ k in
     let u : 0x80 ≤ n = ltb-false _ _ h in
     let e : (0x80 + n / 256) % 64 * 256 + n % 256 ≡ n = omega arith in
-    record { is = simp (le-ltb (0x80 + n / 256) 0x80 (omega arith), lt-ltb (0x80 + n / 256) 0xc0 (omega arith), e) })
+    record { is = simp (le-ltb (0x80 + n / 256) 0x80 (omega arith), lt-ltb (0x80 + n / 256) 0xc0 (omega arith), e, ← shortest-two n u t) })
     (λ k.
     let u : 0x4000 ≤ n = ltb-false _ _ k in
     let d : n / 2 ^ 8 / 2 ^ 8 ≡ n / 2 ^ 16 = div-div-eq-div-mul n (2 ^ 8) (2 ^ 8) in
@@ -42,24 +43,24 @@ reads n l =
     let small : n / 2 ^ 24 < 32 = omega arith in
     let f : (0xc0 + n / 2 ^ 24) % 32 ≡ n / 2 ^ 24 = omega arith in
     let e : (0xc0 + n / 2 ^ 24) % 32 * 2 ^ 24 + n / 2 ^ 16 % 256 * 2 ^ 16 + n / 2 ^ 8 % 256 * 2 ^ 8 + n % 256 ≡ n = omega arith in
-    record { is = simp (le-ltb (0xc0 + n / 2 ^ 24) 0x80 (omega arith), le-ltb (0xc0 + n / 2 ^ 24) 0xc0 (omega arith), lt-ltb (0xc0 + n / 2 ^ 24) 0xe0 (omega arith)) (ap (λ v. ok (record { value = v; next = 4 })) e) }))
+    record { is = simp (le-ltb (0xc0 + n / 2 ^ 24) 0x80 (omega arith), le-ltb (0xc0 + n / 2 ^ 24) 0xc0 (omega arith), lt-ltb (0xc0 + n / 2 ^ 24) 0xe0 (omega arith)) (ap (λ v. ok (numberOf 0 4 v)) e ∙ rw (← shortest-four n u)) }))
 
-pub short-reads : (n : ℕ) → n < 2 ^ 29 → numberAt (short n) 0 ≡ ok (record { value = n; next = length (short n) })
+pub short-reads : (n : ℕ) → n < 2 ^ 29 → numberAt (short n) 0 ≡ ok (shortNumber 0 n)
 short-reads n l = reads n l .is
 
 -- with any bytes after it, and before it
-pub short-reads-first : (w : List ℕ) (n : ℕ) → n < 2 ^ 29 → numberAt (short n ++ w) 0 ≡ ok (record { value = n; next = length (short n) })
+pub short-reads-first : (w : List ℕ) (n : ℕ) → n < 2 ^ 29 → numberAt (short n ++ w) 0 ≡ ok (shortNumber 0 n)
 short-reads-first w n l = go (numberAt (short n) 0) (number-keeps (short n) w 0) (short-reads n l)
   where
-    go : (o : Outcome Stop Number) → NumberKeeps (short n) w 0 o → o ≡ ok (record { value = n; next = length (short n) }) → numberAt (short n ++ w) 0 ≡ ok (record { value = n; next = length (short n) })
+    go : (o : Outcome Stop Number) → NumberKeeps (short n) w 0 o → o ≡ ok (shortNumber 0 n) → numberAt (short n ++ w) 0 ≡ ok (shortNumber 0 n)
     go o (NumberKeeps.same e) f = e ∙ f
     go _ NumberKeeps.short f = absurd (ok-refused (sym f))
 
-pub short-reads-in : (u w : List ℕ) (n : ℕ) → n < 2 ^ 29 → numberAt (u ++ (short n ++ w)) (length u) ≡ ok (record { value = n; next = length u + length (short n) })
+pub short-reads-in : (u w : List ℕ) (n : ℕ) → n < 2 ^ 29 → numberAt (u ++ (short n ++ w)) (length u) ≡ ok (shortNumber (length u) n)
 unfolding laterNumber
 short-reads-in u w n l =
     let place : length u + 0 ≡ length u = add-zero (length u) in
-    rw place at (number-later u (short n ++ w) 0) ∙ rw (short-reads-first w n l)
+    rw place at (number-later u (short n ++ w) 0) ∙ rw (short-reads-first w n l, zero-add)
 
 -- ---- a smaller number is no longer
 pub short-rises : {m n : ℕ} → m ≤ n → length (short m) ≤ length (short n)
@@ -75,7 +76,7 @@ short-rises {m} {n} l = go (ltb n 0x80) (ltb n 0x4000) (ltb m 0x80) (ltb m 0x400
     go false false c d e f g _ = omega (arith, width-four n (ltb-false n 0x4000 f), short-most m)
 
 -- ---- no form is shorter. (A two-byte form of bytes is below 0x4000.)
-pub number-least : (s : List ℕ) (at : ℕ) → ((i : ℕ) → getD s i 0 < 256) → {x : Number} → numberAt s at ≡ ok x → at + length (short (x .value)) ≤ x .next
+pub number-least : (s : List ℕ) (at : ℕ) → Bytes s → {x : Number} → numberAt s at ≡ ok x → at + length (short (x .value)) ≤ x .next
 unfolding numberAt
 number-least s at bytes {x} =
     let P : Outcome Stop Number → Type 0 = λ o. o ≡ ok x → at + length (short (x .value)) ≤ x .next in
@@ -112,7 +113,7 @@ pub all-append : {a b : List ℕ} → AllBytes a → AllBytes b → AllBytes (a 
 all-append none q = q
 all-append (more h p) q = more h (all-append p q)
 
-pub bytes-at : {l : List ℕ} → AllBytes l → (i : ℕ) → getD l i 0 < 256
+pub bytes-at : {l : List ℕ} → AllBytes l → Bytes l
 bytes-at none i = omega arith
 bytes-at (more h p) zero = h
 bytes-at (more h p) (suc i) = bytes-at p i

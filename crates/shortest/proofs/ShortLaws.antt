@@ -1,14 +1,17 @@
 -- The shortest form by its three sizes, and the ways out of the functions that measure it and put it.
-use mathlib.Core.Path.{_≡_}
+use mathlib.Core.Path.{_≡_, refl, sym, _∙_}
+use mathlib.Core.Bool.{Bool, true, false}
 use mathlib.Core.List.{List, [], _∷_}
 use Prim.Native.Nat.{ℕ, suc, _+_, _/_, _%_, _^_, _≤_, _<_}
 use native.Mathlib.Omega.{arith}
 use native.Mathlib.Numerals.{add-one, add-two}
-use borrow.Author.Tests.{lt-ltb, le-ltb}
+use borrow.Author.Tests.{lt-ltb, le-ltb, ltb-true, ltb-false}
 use lib.Dec.{ltb}
 use lib.ListN.{length, set}
 use lib.Seq.{sets, length-sets}
 use Rattle.outcome.proofs.OutcomeLaws.{by-test}
+use Rattle.numbers.specs.Number.{shortWidth}
+use Rattle.numbers.proofs.FormLaws.{shortest-one, shortest-two, shortest-four}
 use Rattle.store.specs.Putting.{Putting}
 use Rattle.shortest.specs.Short.{short}
 
@@ -25,7 +28,6 @@ module _ (n : ℕ) where
   unfolding short
   short-four h = rw (le-ltb n 0x80 (omega arith), le-ltb n 0x4000 h)
 
-  -- ---- `short_width`
   pub width-one : n < 0x80 → 1 ≡ length (short n)
   width-one h = rw (short-one h)
 
@@ -34,6 +36,21 @@ module _ (n : ℕ) where
 
   pub width-four : 0x4000 ≤ n → 4 ≡ length (short n)
   width-four h = rw (short-four h)
+
+-- ---- `short_width`: as `numbers` counts it
+pub short-length : (n : ℕ) → length (short n) ≡ shortWidth n
+short-length n = go (ltb n 0x80) (ltb n 0x4000) refl refl
+  where
+    go : (a b : Bool) → ltb n 0x80 ≡ a → ltb n 0x4000 ≡ b → length (short n) ≡ shortWidth n
+    go true b e f = let h = ltb-true n 0x80 e in sym (width-one n h) ∙ shortest-one n h
+    go false true e f =
+        let h = ltb-false n 0x80 e in
+        let k = ltb-true n 0x4000 f in
+        sym (width-two n h k) ∙ shortest-two n h k
+    go false false e f = let h = ltb-false n 0x4000 f in sym (width-four n h) ∙ shortest-four n h
+
+pub counted : (n : ℕ) {w : ℕ} → w ≡ shortWidth n → w ≡ length (short n)
+counted n e = e ∙ sym (short-length n)
 
 -- a form has one to four bytes
 pub short-some : (n : ℕ) → 1 ≤ length (short n)

@@ -14,13 +14,7 @@ const FOUR_BYTES: u32 = 0x4000;
 pub fn short_width(n: u32) -> usize
     ensures { λ r. ⌜ r ≡ length (short n) ⌝ }
 {
-    if n < TWO_BYTES {
-        return 1;
-    }
-    if n < FOUR_BYTES {
-        return 2;
-    }
-    4
+    numbers::short_width(n)
 }
 
 // Puts the shortest form at a place, and returns the place after it. The caller guarantees that the number has a form,

@@ -1,18 +1,15 @@
--- Each test is one of `short`.
+-- `numbers` counts the bytes of the shortest form (`ShortLaws`).
 -- Assumes nothing.
-use native.Mathlib.Omega.{arith}
-use Rattle.shortest.proofs.ShortLaws.{width-one, width-two, width-four}
+use borrow.Author.Needs.{needs}
+use Rattle.shortest.proofs.ShortLaws.{counted}
 use Rattle.shortest.proofs.short_width.Statement.{statement}
 use Rattle.shortest.proofs.short_width.Tie as tie
 
+short-width-requires : tie.Need-short-width-requires
+short-width-requires c κs = search needs
+
 returns : tie.Need-returns
-returns c = width-one _ (omega arith)
-
-returns-2 : tie.Need-returns-2
-returns-2 c = width-two _ (omega arith) (omega arith)
-
-returns-3 : tie.Need-returns-3
-returns-3 c = width-four _ (omega arith)
+returns c = search counted
 
 pub short-width-spec : {M : Type 1} → statement M
-short-width-spec = tie.close (tie.spec returns returns-2 returns-3)
+short-width-spec = tie.close (tie.spec short-width-requires returns)

@@ -1,4 +1,4 @@
--- The width and the value are the number, and why there is none is the refusal.
+-- The width, the value and its form are the number, and why there is none is the refusal.
 -- Assumes nothing.
 use borrow.Author.Needs.{needs}
 use Rattle.numbers.proofs.NumberLaws.{number-cases}
@@ -20,10 +20,20 @@ value-at-requires c κs = search needs
 add-next : tie.Need-add-next
 add-next c = search needs
 
+is-shortest-requires : tie.Need-is-shortest-requires
+is-shortest-requires c κs = search needs
+
 returns-2 : tie.Need-returns-2
 returns-2 c = search number-cases
 
 pub uncompress-next-spec : {M : Type 1} → statement M
 uncompress-next-spec =
     tie.close
-    (tie.spec width-at-requires why-at-requires returns value-at-requires add-next returns-2)
+    (tie.spec
+    width-at-requires
+    why-at-requires
+    returns
+    value-at-requires
+    add-next
+    is-shortest-requires
+    returns-2)
