@@ -10,12 +10,12 @@ use Rattle.outcome.proofs.OutcomeLaws.{by-tests}
 use Rattle.numbers.specs.Refusal.{Stop}
 use Rattle.numbers.specs.Number.{numberAt}
 use Rattle.numbers.proofs.ShiftLaws.{laterStop, laterNumber, leb-later, number-later}
-use Rattle.annotations.specs.Step.{Stepped, annotation, end, operands, stepAt}
+use Rattle.annotations.specs.Step.{Stepped, annotation, end, placed, operands, stepAt}
 use Rattle.numbers.specs.declared.number.Number.{Number}
 
 -- the same answer, k places later
 unfoldable pub laterStep : ℕ → Outcome Stop Stepped → Outcome Stop Stepped
-laterStep k (ok (annotation x)) = ok (annotation (record { triple = x .triple; next = k + x .next }))
+laterStep k (ok (annotation x)) = ok (annotation (placed (x .triple) (x .shortest) (k + x .next)))
 laterStep k (ok (end p)) = ok (end (k + p))
 laterStep k (refused why) = refused (laterStop k why)
 
@@ -24,7 +24,7 @@ record Later (k : ℕ) (y x : Outcome Stop Stepped) : Type 0 where
   is : y ≡ laterStep k x
 
 module _ (u w : List ℕ) where
-  after-number : (a : ℕ) (j j′ : Number → Outcome Stop Stepped) → ((n : Number) → Later (length u) (j′ (record { value = n .value; next = length u + n .next })) (j n)) → Later (length u) (numberAt (u ++ w) (length u + a) >>= j′) (numberAt w a >>= j)
+  after-number : (a : ℕ) (j j′ : Number → Outcome Stop Stepped) → ((n : Number) → Later (length u) (j′ (record { value = n .value; next = length u + n .next; taken = n .taken; shortest = n .shortest })) (j n)) → Later (length u) (numberAt (u ++ w) (length u + a) >>= j′) (numberAt w a >>= j)
   unfolding _>>=_ laterNumber laterStep
   after-number a j j′ h = rw (number-later u w a) (go (numberAt w a))
     where

@@ -1,7 +1,8 @@
 // An opcode and its operands as they stand in the bytes, before they are made into anything: `step_at` makes a variant
-// of them, the boundary three numbers.
+// of them, the boundary three numbers. Whether each of them has its shortest form is passed on.
 use numbers::PlacedRefusal;
 use numbers::Refusal;
+use numbers::is_shortest;
 use numbers::value_at;
 use numbers::why_at;
 use numbers::width_at;
@@ -9,11 +10,13 @@ ghost use Prim.Native.Nat.{_≤_};
 ghost use Rattle.annotations.specs.Step.{operands};
 ghost use Rattle.annotations.specs.Inner.{ReadAs, Reading};
 
-// An opcode of 1 to 13, its operands as they were read, and the place after them. Only 12 has the second one.
+// An opcode of 1 to 13, its operands as they were read, whether all these numbers were shortest, and the place after
+// them. Only 12 has the second operand.
 pub struct Operands {
     pub opcode: u32,
     pub first: u32,
     pub second: u32,
+    pub shortest: bool,
     pub next: usize,
 }
 
@@ -48,19 +51,21 @@ pub fn operands_at(bytes: &[u8], at: usize) -> OperandStep
             place,
         });
     }
-    operands_of(bytes, opcode, place)
+    operands_of(bytes, opcode, is_shortest(opcode, width), place)
 }
 
-// Reads the operands of an opcode at `at`: 12 has two, the others one.
-fn operands_of(bytes: &[u8], opcode: u32, at: usize) -> OperandStep
+// Reads the operands of an opcode at `at`: 12 has two, the others one. `short` says whether the opcode's own number was
+// shortest.
+fn operands_of(bytes: &[u8], opcode: u32, short: bool, at: usize) -> OperandStep
     requires { ⌜ (1 ≤ opcode) × (opcode ≤ 13) ⌝ }
-    ensures { λ r. ⌜ ReadAs (operands (now (bytes .entry)) opcode at) r ⌝ }
+    ensures { λ r. ⌜ ReadAs (operands (now (bytes .entry)) opcode short at) r ⌝ }
 {
     let width = width_at(bytes, at);
     if width == 0 {
         return OperandStep::Refused(why_at(bytes, at));
     }
     let first = value_at(bytes, at, width);
+    let one = short & is_shortest(first, width);
     let next = at + width;
     if opcode == 12 {
         let width = width_at(bytes, next);
@@ -68,11 +73,13 @@ fn operands_of(bytes: &[u8], opcode: u32, at: usize) -> OperandStep
             return OperandStep::Refused(why_at(bytes, next));
         }
         let second = value_at(bytes, next, width);
+        let both = one & is_shortest(second, width);
         let after = next + width;
         return OperandStep::Annotation(Operands {
             opcode,
             first,
             second,
+            shortest: both,
             next: after,
         });
     }
@@ -80,6 +87,7 @@ fn operands_of(bytes: &[u8], opcode: u32, at: usize) -> OperandStep
         opcode,
         first,
         second: 0,
+        shortest: one,
         next,
     })
 }

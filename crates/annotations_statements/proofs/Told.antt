@@ -97,7 +97,7 @@ uncompressed-is (uncompressed.Value n) = refl
 uncompressed-is (uncompressed.Refused why) = ap uncompressed.Refused (stop-is why)
 
 abbrev step-back : Outcome Stop Stepped → Step
-step-back (ok (annotation x)) = step.Annotation (record { annotation = triple-back (x .triple); next = x .next })
+step-back (ok (annotation x)) = step.Annotation (record { annotation = triple-back (x .triple); shortest = x .shortest; next = x .next })
 step-back (ok (end place)) = step.End place
 step-back (refused why) = step.Refused (stop-back why)
 

@@ -1,25 +1,27 @@
 -- The two loops of decoding all, and what `decoding` answers at each return. Each loop's invariant says what is left in
 -- terms of what is wanted, so the loop's end gives the promise.
 use mathlib.Core.Path.{_≡_, refl, sym, _∙_, ap}
+use mathlib.Core.Bool.{Bool, true, false}
 use mathlib.Core.List.{List, [], _∷_, _++_}
-use Prim.Native.Nat.{ℕ, _+_, _-_, _*_, _^_, _≤_, _<_}
+use Prim.Native.Nat.{ℕ, suc, _+_, _-_, _*_, _^_, _≤_, _<_}
 use native.Mathlib.Omega.{arith}
 use native.Mathlib.Numerals.{add-one, add-two}
 use borrow.Author.Tests.{le-leb, lt-leb}
 use lib.ListN.{length, set, length-append}
 use lib.Seq.{sets, length-sets}
-use lib.IntN.{ℤ}
+use lib.IntN.{ℤ, pos}
 use lib.Signed.{mag}
 use mir.Syntax.{w64}
-use mir.Val.{toZ, ofZ}
+use mir.Val.{boolByte, toZ, ofZ}
 use Rattle.outcome.specs.Outcome.{Outcome, ok, refused, _>>=_, _>>_, require, raise}
 use Rattle.outcome.specs.Store.{written}
 use Rattle.numbers.specs.Refusal.{Stop, stopIn}
+use Rattle.numbers.specs.Number.{flag}
 use Rattle.outcome.proofs.OutcomeLaws.{ok-refused}
 use Rattle.store.proofs.SetsLaws.{sets-append}
 use Rattle.annotations.specs.Annotation.{annotationOf}
-use Rattle.annotations.specs.Step.{PlacedTriple, Stepped, annotation, end, stepAt}
-use Rattle.decode.specs.Decode.{Run, rest, decodeAll, entriesEach, tripleEntries, entries, decodedEntries, counted, decoding}
+use Rattle.annotations.specs.Step.{PlacedTriple, Stepped, annotation, end, placed, stepAt}
+use Rattle.decode.specs.Decode.{Run, rest, decodeAll, entriesEach, entriesOf, entries, decodedEntries, counted, decoding}
 use Rattle.decode.specs.Inner.{CountingAll, countedAllIn, whyCountedAll}
 use Rattle.annotations.specs.Inner.{readIn, Reading}
 use Rattle.judging.specs.Inner.{endOf, Skipping, Judged, stoppedIn, Stopping}
@@ -42,7 +44,7 @@ abbrev tripleOf : Operands → Triple
 tripleOf a = annotationOf (a .opcode) (a .first) (a .second)
 
 abbrev foundIn : Operands → PlacedTriple
-foundIn a = record { triple = tripleOf a; next = a .next }
+foundIn a = placed (tripleOf a) (a .shortest) (a .next)
 
 stepped : {s : List ℕ} {at : ℕ} {a : Operands} → Reading s at (read.Annotation a) → stepAt s at ≡ ok (annotation (foundIn a))
 unfolding readIn
@@ -141,18 +143,18 @@ module _ {s : List ℕ} {st₀ st : List ℤ} {needed at i : ℕ} (w : Written-s
   write-there l = left-there s at (let e = w .left in omega arith)
 
   module _ {a : Operands} (p : Reading s at (read.Annotation a)) {t : Triple} (g : t ≡ tripleOf a) where
-    next : entries (rest s at .found) ≡ tripleEntries t ++ entries (rest s (a .next) .found)
+    next : entries (rest s at .found) ≡ entriesOf t (a .shortest) ++ entries (rest s (a .next) .found)
     unfolding entries
     next = rw (rest-on s at (stepped p), g)
 
     pub write-room : i + entriesEach ≤ length st
     write-room = let e = w .left in let h = w .room in omega (arith, rw next at e)
 
-    pub write-more : {st′ : List ℤ} → st′ ≡ sets st i (tripleEntries t) → Written-so-far s st₀ st′ needed (a .next) (i + entriesEach)
+    pub write-more : {st′ : List ℤ} → st′ ≡ sets st i (entriesOf t (a .shortest)) → Written-so-far s st₀ st′ needed (a .next) (i + entriesEach)
     write-more k =
         record {
           same = rw (k, length-sets) (w .same);
-          wanted = rw k (sets-append (tripleEntries t) (entries (rest s (a .next) .found)) st i ∙ rw next at (w .wanted));
+          wanted = rw k (sets-append (entriesOf t (a .shortest)) (entries (rest s (a .next) .found)) st i ∙ rw next at (w .wanted));
           left = let e = w .left in omega (arith, rw next at e);
           room = rw (k, length-sets) (w .room);
         }
@@ -165,9 +167,15 @@ module _ {s : List ℕ} {st₀ st : List ℤ} {needed at i : ℕ} (w : Written-s
 
 pub ruleset write-cases = (write-none, write-there, write-room, write-more, write-end)
 
--- the stores of `put`, one for each entry
-pub put-is : (st : List ℤ) (at : ℕ) (y z : ℤ) {x w : ℤ} → x ≡ w → mag x < 2 ^ 63 → mag y < 2 ^ 63 → mag z < 2 ^ 63 → set (set (set st at (toZ w64 (ofZ w64 x))) (at + 1) (toZ w64 (ofZ w64 y))) (at + 2) (toZ w64 (ofZ w64 z)) ≡ sets st at (w ∷ y ∷ z ∷ [])
-put-is st at y z e p q r = rw (stored p, stored q, stored r, e, add-one, add-two)
+-- the stores of `put`, one for each entry. The flag is a bool's number
+flag-stored : (shortest : Bool) → toZ w64 (boolByte shortest) ≡ pos (flag shortest)
+flag-stored true = refl
+flag-stored false = refl
+
+pub put-is : (st : List ℤ) (at : ℕ) (y z : ℤ) (shortest : Bool) {x w : ℤ} → x ≡ w → mag x < 2 ^ 63 → mag y < 2 ^ 63 → mag z < 2 ^ 63 → set (set (set (set st at (toZ w64 (ofZ w64 x))) (at + 1) (toZ w64 (ofZ w64 y))) (at + 2) (toZ w64 (ofZ w64 z))) (at + 3) (toZ w64 (boolByte shortest)) ≡ sets st at (w ∷ y ∷ z ∷ pos (flag shortest) ∷ [])
+put-is st at y z shortest e p q r =
+    let three : at + 3 ≡ suc (suc (suc at)) = omega arith in
+    rw (stored p, stored q, stored r, flag-stored, e, add-one, add-two, three)
 
 -- ---- the returns of `decode_all`
 length-entries : (l : List PlacedTriple) → length (entries l) ≡ entriesEach * length l

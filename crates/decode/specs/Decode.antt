@@ -1,5 +1,6 @@
 -- Document 01, "Decoding all stops at the end, or at the first refusal, which it returns with its place".
 use Prim.Native.Nat.{ℕ, zero, suc, _-_, _*_}
+use mathlib.Core.Bool.{Bool}
 use mathlib.Core.List.{List, [], _∷_, _++_}
 use mathlib.Core.Option.{Option, none, some}
 use lib.ListN.{length}
@@ -8,6 +9,7 @@ use lib.IntN.{ℤ, pos}
 use Rattle.outcome.specs.Outcome.{Outcome, ok, refused, _>>=_, _>>_, require, raise}
 use Rattle.outcome.specs.Refusal as paper
 use Rattle.numbers.specs.Refusal.{Stop}
+use Rattle.numbers.specs.Number.{flag}
 use Rattle.annotations.specs.Step.{PlacedTriple, Stepped, annotation, end, stepAt}
 use Rattle.annotations.specs.declared.annotation.Triple.{Triple}
 
@@ -37,20 +39,21 @@ rest s at = runFrom s (suc (length s - at)) at
 unfoldable pub decodeAll : List ℕ → Run
 decodeAll s = rest s 0
 
--- "three signed 64-bit numbers for each: opcode, first, second or 0"
+-- "signed 64-bit numbers for each: opcode, first, second or 0"; request 2026-06: "a fourth entry, 1 or 0", which says
+-- whether all its numbers were shortest, "so it now needs 4 entries an annotation"
 abbrev pub entriesEach : ℕ
-entriesEach = 3
+entriesEach = 4
 
 abbrev pub tripleEntries : Triple → List ℤ
 tripleEntries t = pos (t .opcode) ∷ t .first ∷ t .second ∷ []
 
 -- the entries of one annotation, of several, and of all that the bytes hold
-abbrev pub entriesOf : PlacedTriple → List ℤ
-entriesOf x = tripleEntries (x .triple)
+abbrev pub entriesOf : Triple → Bool → List ℤ
+entriesOf t shortest = tripleEntries t ++ pos (flag shortest) ∷ []
 
 unfoldable pub entries : List PlacedTriple → List ℤ
 entries [] = []
-entries (x ∷ later) = entriesOf x ++ entries later
+entries (x ∷ later) = entriesOf (x .triple) (x .shortest) ++ entries later
 
 abbrev pub decodedEntries : List ℕ → List ℤ
 decodedEntries s = entries (decodeAll s .found)

@@ -13,12 +13,12 @@ ghost use mathlib.Core.Path.{_≡_};
 ghost use Prim.Native.Nat.{_+_, _≤_};
 ghost use lib.ListN.{length};
 ghost use lib.Seq.{sets};
-ghost use Rattle.decode.specs.Decode.{entriesEach, tripleEntries, decodedEntries};
+ghost use Rattle.decode.specs.Decode.{entriesEach, entriesOf, decodedEntries};
 ghost use Rattle.decode.specs.Inner.{CountingAll, whyCountedAll};
 ghost use Rattle.decode.specs.Promises.{Decoding};
 
 // How many entries of the store an annotation takes.
-pub const ENTRIES_EACH: usize = 3;
+pub const ENTRIES_EACH: usize = 4;
 
 pub enum Decoded {
     // How many annotations there are.
@@ -93,16 +93,16 @@ fn write_all(bytes: &[u8], store: &mut [i64], needed: usize)
     let mut i: usize = 0;
     while i < needed {
         let a = judged_at(bytes, at);
-        put(store, i, triple_of(a.opcode, a.first, a.second));
+        put(store, i, triple_of(a.opcode, a.first, a.second), a.shortest);
         at = a.next;
         i += ENTRIES_EACH;
     }
 }
 
 // Writes the entries of one annotation. The caller guarantees room for them.
-fn put(store: &mut [i64], at: usize, t: Triple)
+fn put(store: &mut [i64], at: usize, t: Triple, shortest: bool)
     requires { ⌜ at + entriesEach ≤ length (now store) ⌝ }
-    ensures { λ r. ⌜ now (store .exit) ≡ sets (now (store .entry)) at (tripleEntries t) ⌝ }
+    ensures { λ r. ⌜ now (store .exit) ≡ sets (now (store .entry)) at (entriesOf t shortest) ⌝ }
 {
     let opcode = wide(t.opcode);
     let first = t.first;
@@ -110,4 +110,5 @@ fn put(store: &mut [i64], at: usize, t: Triple)
     store[at] = opcode;
     store[at + 1] = first;
     store[at + 2] = second;
+    store[at + 3] = shortest as i64;
 }

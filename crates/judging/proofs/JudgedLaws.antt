@@ -2,10 +2,12 @@
 -- `judged_at` reads what `operands_at` would.
 use mathlib.Core.Path.{_≡_, sym}
 use mathlib.Core.Logic.{⊎-elim}
+use mathlib.Core.Bool.{Bool, _&&_}
 use mathlib.Core.List.{List}
 use Prim.Native.Nat.{ℕ, _+_, _≤_}
 use native.Mathlib.Omega.{arith}
 use Rattle.outcome.proofs.OutcomeLaws.{below-or}
+use Rattle.numbers.specs.Number.{isShortest}
 use Rattle.numbers.specs.Inner.{Width, Value}
 use Rattle.annotations.specs.Inner.{Reading}
 use Rattle.annotations.specs.declared.operands.OperandStep.the-variants.{Annotation}
@@ -35,15 +37,15 @@ module _ (s : List ℕ) (at : ℕ) (j : Judged s at) where
       second-there t d₂ z =
           never (skip-known s at d (opcode-there d) v not-zero known (skip-second s op (at + w) d₁ first-there t d₂ z))
 
-    module _ {w₁ first : ℕ} (v₁ : Value s (at + w) w₁ first) where
-      pub judged-one : (op ≡ 12 → ⊥) → Reading s at (Annotation (record { opcode = op; first = first; second = 0; next = at + w + w₁ }))
+    module _ {short : Bool} (i : short ≡ isShortest op w) {w₁ first : ℕ} (v₁ : Value s (at + w) w₁ first) {x : Bool} (i₁ : x ≡ isShortest first w₁) where
+      pub judged-one : (op ≡ 12 → ⊥) → Reading s at (Annotation (record { opcode = op; first = first; second = 0; shortest = short && x; next = at + w + w₁ }))
       judged-one t =
           let z = not-zero in
-          at-operands s at (inside s at d (opcode-there d) v) v not-zero known (first-alone s op (at + w) (omega arith, known) v₁ t)
+          at-operands s at (inside s at d (opcode-there d) v) v not-zero known i (first-alone s op short (at + w) (omega arith, known) v₁ i₁ t)
 
-      pub judged-two : {w₂ second : ℕ} → op ≡ 12 → Value s (at + w + w₁) w₂ second → Reading s at (Annotation (record { opcode = op; first = first; second = second; next = at + w + w₁ + w₂ }))
-      judged-two t v₂ =
+      pub judged-two : {w₂ second : ℕ} → op ≡ 12 → Value s (at + w + w₁) w₂ second → {y : Bool} → y ≡ isShortest second w₂ → Reading s at (Annotation (record { opcode = op; first = first; second = second; shortest = short && x && y; next = at + w + w₁ + w₂ }))
+      judged-two t v₂ i₂ =
           let z = not-zero in
-          at-operands s at (inside s at d (opcode-there d) v) v not-zero known (first-and-second s op (at + w) (omega arith, known) v₁ t v₂)
+          at-operands s at (inside s at d (opcode-there d) v) v not-zero known i (first-and-second s op short (at + w) (omega arith, known) v₁ i₁ t v₂ i₂)
 
 pub ruleset judged-cases = (judged-one, judged-two)

@@ -9,12 +9,11 @@ use lib.ListN.{length}
 use Rattle.outcome.specs.Outcome.{refused}
 use Rattle.outcome.proofs.OutcomeLaws.{below-or}
 use Rattle.numbers.specs.Refusal.{Stop}
-use Rattle.numbers.specs.Number.{numberAt}
+use Rattle.numbers.specs.Number.{isShortest, numberAt}
 use Rattle.numbers.specs.Inner.{Width, Value}
 use Rattle.numbers.proofs.FormLaws.{number-there, number-missing}
-use Rattle.annotations.specs.Step.{operands}
 use Rattle.annotations.proofs.StepLaws.{first-missing, one-operand, second-missing, two-operands, past-end, code-missing, code-zero, code-unknown, code-known}
-use Rattle.judging.specs.Inner.{endOf, Skipping}
+use Rattle.judging.specs.Inner.{endOf, Skipping, SkippingOperands}
 
 -- a width of 0 says that there is no number
 none-there : (s : List ℕ) (at : ℕ) {w : ℕ} → Width s at w → w ≡ 0 → (why : Stop) × (numberAt s at ≡ refused why)
@@ -22,23 +21,25 @@ none-there s at d z = number-missing s at (rw z at d)
 
 -- ---- `skip_operands`
 module _ (s : List ℕ) (op at : ℕ) where
-  pub skip-first : {w : ℕ} → Width s at w → w ≡ 0 → 0 ≡ endOf (operands s op at)
+  pub skip-first : {w : ℕ} → Width s at w → w ≡ 0 → SkippingOperands s op at 0
   unfolding endOf
-  skip-first d z = rw (first-missing s op at (none-there s at d z .1))
+  skip-first d z = record { is = λ short. rw (first-missing s op short at (none-there s at d z .1)) }
 
   module _ {w : ℕ} (d : Width s at w) (n : w ≡ 0 → ⊥) where
-    pub skip-one : (op ≡ 12 → ⊥) → at + w ≡ endOf (operands s op at)
+    pub skip-one : (op ≡ 12 → ⊥) → SkippingOperands s op at (at + w)
     unfolding endOf
-    skip-one t = rw (one-operand s op at (number-there s at d n .1) t)
+    skip-one t = record { is = λ short. rw (one-operand s op short at (number-there s at d n .1) t) }
 
     module _ (t : op ≡ 12) where
-      pub skip-second : {w′ : ℕ} → Width s (at + w) w′ → w′ ≡ 0 → 0 ≡ endOf (operands s op at)
+      pub skip-second : {w′ : ℕ} → Width s (at + w) w′ → w′ ≡ 0 → SkippingOperands s op at 0
       unfolding endOf
-      skip-second d′ z = rw (second-missing s op at (number-there s at d n .1) t (none-there s (at + w) d′ z .1))
+      skip-second d′ z =
+          record { is = λ short. rw (second-missing s op short at (number-there s at d n .1) t (none-there s (at + w) d′ z .1)) }
 
-      pub skip-two : {w′ : ℕ} → Width s (at + w) w′ → (w′ ≡ 0 → ⊥) → at + w + w′ ≡ endOf (operands s op at)
+      pub skip-two : {w′ : ℕ} → Width s (at + w) w′ → (w′ ≡ 0 → ⊥) → SkippingOperands s op at (at + w + w′)
       unfolding endOf
-      skip-two d′ n′ = rw (two-operands s op at (number-there s at d n .1) t (number-there s (at + w) d′ n′ .1))
+      skip-two d′ n′ =
+          record { is = λ short. rw (two-operands s op short at (number-there s at d n .1) t (number-there s (at + w) d′ n′ .1)) }
 
 pub ruleset operand-cases = (skip-first, skip-one, skip-second, skip-two)
 
@@ -62,7 +63,7 @@ module _ (s : List ℕ) (at : ℕ) where
       unfolding endOf
       skip-unknown l = record { is = rw (code-unknown s at inside (v .is) z l) }
 
-      pub skip-known : {r : ℕ} → op ≤ 13 → r ≡ endOf (operands s op (at + w)) → Skipping s at r
-      skip-known l e = record { is = e ∙ rw (code-known s at inside (v .is) z l) }
+      pub skip-known : {r : ℕ} → op ≤ 13 → SkippingOperands s op (at + w) r → Skipping s at r
+      skip-known l e = record { is = e .is (isShortest op w) ∙ rw (code-known s at inside (v .is) z l) }
 
 pub ruleset skip-cases = (skip-code, skip-zero, skip-unknown, skip-known)

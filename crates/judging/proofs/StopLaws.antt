@@ -10,7 +10,7 @@ use lib.Dec.{eqb}
 use lib.ListN.{length}
 use Rattle.outcome.specs.Outcome.{Outcome, ok, refused}
 use Rattle.numbers.specs.Refusal.{Stop}
-use Rattle.numbers.specs.Number.{numberAt}
+use Rattle.numbers.specs.Number.{isShortest, numberAt}
 use Rattle.numbers.specs.Inner.{widthOf, Width, Value, Why}
 use Rattle.numbers.proofs.FormLaws.{number-there}
 use Rattle.numbers.proofs.MoveLaws.{number-in}
@@ -23,14 +23,14 @@ use Rattle.numbers.specs.declared.number.Number.{Number}
 use Rattle.judging.specs.declared.stop.Stopped.the-variants.{End, Refused}
 
 -- ---- operands that are not there: with a first operand they are those of 12, and the second is missing
-module _ (s : List ℕ) (op at : ℕ) {w : ℕ} (d : Width s at w) (n : w ≡ 0 → ⊥) (k : 0 ≡ endOf (operands s op at)) where
+module _ (s : List ℕ) (op : ℕ) (short : Bool) (at : ℕ) {w : ℕ} (d : Width s at w) (n : w ≡ 0 → ⊥) (k : 0 ≡ endOf (operands s op short at)) where
   is-twelve : op ≡ 12
   unfolding endOf
   is-twelve = go (eqb op 12) refl
     where
       go : (b : Bool) → eqb op 12 ≡ b → op ≡ 12
       go true e = eqb-true op 12 e
-      go false e = absurd (n (let z = rw (one-operand s op at (number-there s at d n .1) (eqb-false op 12 e)) at k in omega arith))
+      go false e = absurd (n (let z = rw (one-operand s op short at (number-there s at d n .1) (eqb-false op 12 e)) at k in omega arith))
 
   pub second-gone : (why : Stop) × (numberAt s (at + w) ≡ refused why)
   unfolding endOf
@@ -41,7 +41,7 @@ module _ (s : List ℕ) (op at : ℕ) {w : ℕ} (d : Width s at w) (n : w ≡ 0 
       go (ok v) e =
           let m = number-in s (at + w) e in
           let past = m .0 in
-          let z = rw (two-operands s op at (number-there s at d n .1) is-twelve e) at k in
+          let z = rw (two-operands s op short at (number-there s at d n .1) is-twelve e) at k in
           absurd (omega arith)
 
 -- ---- `stop_at`
@@ -68,21 +68,21 @@ module _ (s : List ℕ) (at : ℕ) where
         module _ (l : op ≤ 13) where
           pub stop-first : {why : PlacedRefusal} → Why s (at + w) why → Stopping s at (Refused why)
           unfolding stoppedIn
-          stop-first y = record { answer = sym (code-known s at h (v .is) z l ∙ first-missing s op (at + w) (y .is)) }
+          stop-first y = record { answer = sym (code-known s at h (v .is) z l ∙ first-missing s op _ (at + w) (y .is)) }
 
           module _ {w₁ : ℕ} (d₁ : Width s (at + w) w₁) (n₁ : w₁ ≡ 0 → ⊥) (k : Skipping s at 0) where
-            no-end : 0 ≡ endOf (operands s op (at + w))
+            no-end : 0 ≡ endOf (operands s op (isShortest op w) (at + w))
             no-end = rw (code-known s at h (v .is) z l) at (k .is)
 
             pub no-second : Width s (at + w + w₁) 0
             unfolding widthOf
             no-second =
-                let gone = second-gone s op (at + w) d₁ n₁ no-end in
+                let gone = second-gone s op _ (at + w) d₁ n₁ no-end in
                 record { is = rw (gone .1); within = omega arith }
 
             pub stop-second : {why : PlacedRefusal} → Why s (at + w + w₁) why → Stopping s at (Refused why)
             unfolding stoppedIn
             stop-second y =
-                record { answer = sym (code-known s at h (v .is) z l ∙ second-missing s op (at + w) (number-there s (at + w) d₁ n₁ .1) (is-twelve s op (at + w) d₁ n₁ no-end) (y .is)) }
+                record { answer = sym (code-known s at h (v .is) z l ∙ second-missing s op _ (at + w) (number-there s (at + w) d₁ n₁ .1) (is-twelve s op _ (at + w) d₁ n₁ no-end) (y .is)) }
 
 pub ruleset stop-cases = (stop-end, stop-code, stop-zero, stop-unknown, stop-first, stop-second)

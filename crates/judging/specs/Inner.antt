@@ -1,11 +1,12 @@
 -- What inner functions promise their callers: where an annotation ends, that one stands at a place, or why
 -- none does.
 use mathlib.Core.Path.{_≡_}
+use mathlib.Core.Bool.{Bool}
 use mathlib.Core.List.{List}
 use Prim.Native.Nat.{ℕ}
 use Rattle.outcome.specs.Outcome.{Outcome, ok, refused}
 use Rattle.numbers.specs.Refusal.{Stop, stopIn}
-use Rattle.annotations.specs.Step.{Stepped, annotation, end, stepAt}
+use Rattle.annotations.specs.Step.{Stepped, annotation, end, operands, stepAt}
 use Rattle.judging.specs.declared.stop.Stopped.{Stopped}
 use Rattle.judging.specs.declared.stop.Stopped.the-variants as stopped
 
@@ -17,6 +18,10 @@ endOf (refused why) = 0
 
 pub record Skipping (s : List ℕ) (at r : ℕ) : Type 0 where
   pub is : r ≡ endOf (stepAt s at)
+
+-- where operands end does not depend on the form of their opcode
+pub record SkippingOperands (s : List ℕ) (op at r : ℕ) : Type 0 where
+  pub is : (short : Bool) → r ≡ endOf (operands s op short at)
 
 -- an annotation stands there
 pub record Judged (s : List ℕ) (at : ℕ) : Type 0 where

@@ -2,9 +2,7 @@
 // built, and no reason is given if there is none.
 use numbers::value_at;
 use numbers::width_at;
-ghost use mathlib.Core.Path.{_≡_};
-ghost use Rattle.annotations.specs.Step.{operands};
-ghost use Rattle.judging.specs.Inner.{endOf, Skipping};
+ghost use Rattle.judging.specs.Inner.{Skipping, SkippingOperands};
 
 // The place after the annotation at `at`. 0 if none stands there.
 pub fn skip_at(bytes: &[u8], at: usize) -> usize
@@ -26,7 +24,7 @@ pub fn skip_at(bytes: &[u8], at: usize) -> usize
 
 // The place after the operands of an opcode at `at`: 12 has two, the others one. 0 if they are not there.
 fn skip_operands(bytes: &[u8], opcode: u32, at: usize) -> usize
-    ensures { λ r. ⌜ r ≡ endOf (operands (now (bytes .entry)) opcode at) ⌝ }
+    ensures { λ r. ⌜ SkippingOperands (now (bytes .entry)) opcode at r ⌝ }
 {
     let width = width_at(bytes, at);
     if width == 0 {

@@ -34,6 +34,18 @@ mul-second c = search needs
 slice-set-from-second : tie.Need-slice-set-from-second
 slice-set-from-second c = simp length-set (omega arith)
 
+cast-store : tie.Need-cast-store
+cast-store c = search needs
+
+add-t8 : tie.Need-add-t8
+add-t8 c = search needs
+
+mul-t10 : tie.Need-mul-t10
+mul-t10 c = search needs
+
+slice-set-from-store : tie.Need-slice-set-from-store
+slice-set-from-store c = simp length-set (omega arith)
+
 same-length : tie.Need-same-length
 same-length c = search needs
 
@@ -53,5 +65,9 @@ put-spec =
     add-second
     mul-second
     slice-set-from-second
+    cast-store
+    add-t8
+    mul-t10
+    slice-set-from-store
     same-length
     returns)

@@ -31,6 +31,9 @@ add-place c = search needs
 returns-4 : tie.Need-returns-4
 returns-4 c = let unknown : 13 < c .before .before .value-at .result = omega arith in search read-cases
 
+is-shortest-requires : tie.Need-is-shortest-requires
+is-shortest-requires c κs = search needs
+
 operands-of-requires : tie.Need-operands-of-requires
 operands-of-requires c κs = search needs
 
@@ -49,5 +52,6 @@ operands-at-spec =
     returns-3
     add-place
     returns-4
+    is-shortest-requires
     operands-of-requires
     returns-5)

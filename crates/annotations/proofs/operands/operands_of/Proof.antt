@@ -17,6 +17,9 @@ returns c = search operand-cases
 value-at-requires : tie.Need-value-at-requires
 value-at-requires c κs = search needs
 
+is-shortest-requires : tie.Need-is-shortest-requires
+is-shortest-requires c κs = search needs
+
 add-next : tie.Need-add-next
 add-next c = search needs
 
@@ -31,6 +34,9 @@ returns-2 c = search operand-cases
 
 value-at-requires-2 : tie.Need-value-at-requires-2
 value-at-requires-2 c κs = search needs
+
+is-shortest-requires-2 : tie.Need-is-shortest-requires-2
+is-shortest-requires-2 c κs = search needs
 
 add-after : tie.Need-add-after
 add-after c = search needs
@@ -49,11 +55,13 @@ operands-of-spec =
     why-at-requires
     returns
     value-at-requires
+    is-shortest-requires
     add-next
     width-at-requires-2
     why-at-requires-2
     returns-2
     value-at-requires-2
+    is-shortest-requires-2
     add-after
     returns-3
     returns-4)

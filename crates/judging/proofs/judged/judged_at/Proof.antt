@@ -11,6 +11,9 @@ width-at-requires c κs = search needs
 value-at-requires : tie.Need-value-at-requires
 value-at-requires c κs = search opcode-there
 
+is-shortest-requires : tie.Need-is-shortest-requires
+is-shortest-requires c κs = search needs
+
 add-place : tie.Need-add-place
 add-place c = search needs
 
@@ -19,6 +22,9 @@ width-at-requires-2 c κs = search needs
 
 value-at-requires-2 : tie.Need-value-at-requires-2
 value-at-requires-2 c κs = search first-there
+
+is-shortest-requires-2 : tie.Need-is-shortest-requires-2
+is-shortest-requires-2 c κs = search needs
 
 add-next : tie.Need-add-next
 add-next c = search needs
@@ -32,6 +38,9 @@ width-at-requires-3 c κs = search needs
 value-at-requires-3 : tie.Need-value-at-requires-3
 value-at-requires-3 c κs = search second-there
 
+is-shortest-requires-3 : tie.Need-is-shortest-requires-3
+is-shortest-requires-3 c κs = search needs
+
 add-after : tie.Need-add-after
 add-after c = search needs
 
@@ -44,12 +53,15 @@ judged-at-spec =
     (tie.spec
     width-at-requires
     value-at-requires
+    is-shortest-requires
     add-place
     width-at-requires-2
     value-at-requires-2
+    is-shortest-requires-2
     add-next
     returns
     width-at-requires-3
     value-at-requires-3
+    is-shortest-requires-3
     add-after
     returns-2)
