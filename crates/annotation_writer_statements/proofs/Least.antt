@@ -1,29 +1,21 @@
 -- No bytes that decode to the same annotations are fewer: each number that is read takes at least its shortest form, and
 -- the operands that are written are no larger than those that were read.
-use mathlib.Core.Path.{_≡_, refl, sym}
 use mathlib.Core.Bool.{Bool, true, false, cond}
 use mathlib.Core.List.{List, [], _∷_, append-nil, map}
-use Prim.Native.Nat.{ℕ, zero, suc, _+_, _*_, _/_, _%_, _^_, _≤_, _<_}
+use Prim.Native.Nat.{ℕ, zero, suc, _+_, _^_, _≤_, _<_}
 use native.Mathlib.Omega.{arith}
-use borrow.Author.Tests.{eqb-false}
-use lib.Dec.{leb, eqb}
+use lib.Dec.{eqb}
 use lib.ListN.{length, length-append}
-use lib.IntN.{ℤ, pos, negℤ, natAbs}
-use Rattle.outcome.specs.Outcome.{Outcome, ok, require}
-use Rattle.outcome.proofs.OutcomeLaws.{by-test, came, came-by}
-use Rattle.numbers.specs.Refusal.{Stop}
-use Rattle.numbers.specs.Number.{numberAt}
-use Rattle.annotations.specs.Signed.{signedOf}
-use Rattle.annotations.specs.Annotation.{triple, annotationOf}
-use Rattle.annotations.specs.Step.{PlacedTriple, Stepped, annotation, operands, stepAt}
-use Rattle.annotations.specs.declared.annotation.Triple.{Triple}
+use lib.IntN.{ℤ, natAbs}
+use Rattle.annotations.specs.Step.{PlacedTriple}
+use Rattle.annotations.proofs.ReadLaws.{Read, one, two, step-read}
 use Rattle.annotations.proofs.MoveLaws.{advanced}
 use Rattle.annotations_statements.specs.Statements.{StepsTo}
 use Rattle.annotations_statements.proofs.Statements.{agreement}
-use Rattle.shortest.specs.Short.{short}
+use Rattle.shortest.specs.Short.{Bytes}
 use Rattle.shortest.proofs.ReadLaws.{short-reads, short-rises, number-least, AllBytes, all-append, bytes-at, short-bytes}
 use Rattle.annotation_records.specs.Records.{count, recordAt, annotationIn}
-use Rattle.annotation_records.specs.Operands.{operandOf, operandsOf, shorts, annotationBytes}
+use Rattle.annotation_records.specs.Operands.{shorts, annotationBytes}
 use Rattle.annotation_records.specs.Inner.{firstOperand, numbersIn, HaveForms}
 use Rattle.annotation_records.specs.declared.record.Record.{Record}
 use Rattle.annotation_records.specs.declared.operands.Numbers.{Numbers}
@@ -32,80 +24,30 @@ use Rattle.annotation_records.proofs.OperandLaws.{second-small, first-form, num
 use Rattle.annotation_writer.specs.Writing.{annotationsIn, bytesOf}
 use Rattle.annotation_writer.specs.Inner.{AllWritable}
 use Rattle.annotation_writer.proofs.WriteLaws.{bytes-append}
-use Rattle.annotation_writer_statements.specs.Statements.{Bytes, Shortest}
-use Rattle.annotation_writer_statements.proofs.BytesLaws.{not-an-end}
+use Rattle.annotation_writer_statements.specs.Statements.{Shortest}
+use Rattle.annotation_writer_statements.proofs.AgainLaws.{again-most, bytes-one, bytes-two}
 use Rattle.annotation_writer_statements.proofs.RoundTrip.{fine}
 
--- ---- an operand that is read as this number is no smaller
-negative-least : (h v : ℕ) → 2 * h + 1 ≤ v → operandOf (negℤ (pos h)) ≤ v
-unfolding operandOf
-negative-least zero v l = omega arith
-negative-least (suc h) v l = omega arith
-
-operand-least : (v : ℕ) → operandOf (signedOf v) ≤ v
-unfolding operandOf signedOf
-operand-least v =
-    by-test (λ z. operandOf z ≤ v) (eqb (v % 2) 0) (λ _. omega arith)
-    (λ e. negative-least (v / 2) v (omega (arith, eqb-false (v % 2) 0 e)))
-
-packed-least : (v : ℕ) → v % 16 + 16 * operandOf (signedOf (v / 16)) ≤ v
-packed-least v = omega (arith, operand-least (v / 16))
-
 -- ---- an annotation takes at least its bytes
-annotation-least : (op v w : ℕ) → length (annotationBytes (annotationOf op v w)) ≤ length (short op) + (length (short v) + cond (eqb op 12) (length (short w)) 0)
-unfolding annotationOf operandsOf shorts
-annotation-least op v w = go (eqb op 6) (eqb op 10) (eqb op 11) (eqb op 12) refl refl refl refl
-  where
-    Goal : Triple → Type 0
-    Goal t = length (annotationBytes t) ≤ length (short op) + (length (short v) + cond (eqb op 12) (length (short w)) 0)
-
-    by : (t : Triple) → annotationOf op v w ≡ t → Goal t → Goal (annotationOf op v w)
-    by t e h = rw e h
-
-    one : {m : ℕ} → m ≤ v → length (shorts (op ∷ m ∷ [])) ≤ length (short op) + length (short v)
-    one l = rw (length-append, length-append) (omega (arith, short-rises l))
-
-    go : (a b c d : Bool) → eqb op 6 ≡ a → eqb op 10 ≡ b → eqb op 11 ≡ c → eqb op 12 ≡ d → Goal (annotationOf op v w)
-    go true b c d e _ _ _ = by (triple op (signedOf v) (pos 0)) (rw e) (rw e (omega (arith, one (operand-least v))))
-    go false true c d e f _ _ =
-        by (triple op (signedOf v) (pos 0)) (rw (e, f)) (rw (e, f) (omega (arith, one (operand-least v))))
-    go false false true d e f g _ =
-        by (triple op (pos (v % 16)) (signedOf (v / 16))) (rw (e, f, g)) (rw (e, f, g) (omega (arith, one (packed-least v))))
-    go false false false true e f g h =
-        by (triple op (pos v) (pos w)) (rw (e, f, g, h)) (rw (e, f, g, h) (rw (length-append, length-append, length-append) (omega arith)))
-    go false false false false e f g h =
-        by (triple op (pos v) (pos 0)) (rw (e, f, g, h)) (rw (e, f, g, h) (omega (arith, one {m = v} (omega arith))))
-
-step-least : (s : List ℕ) (at : ℕ) → Bytes s → {x : PlacedTriple} → stepAt s at ≡ ok (annotation x) → at + length (annotationBytes (x .triple)) ≤ x .next
-unfolding stepAt operands
-step-least s at bytes {x} =
-    by-test P (leb (length s) at) (λ _ e. absurd (not-an-end (sym e)))
-    (λ _ e. came-by (numberAt s at) _ e λ code c f.
-    by-test P (eqb (code .value) 0) (λ _ g. absurd (not-an-end (sym g)))
-    (λ _ g. came (require (leb (code .value) 13) _) _ g λ _ _ h.
-    came-by (numberAt s (code .next)) _ h λ v d i.
-    let op = number-least s at bytes c in
+read-least : {s : List ℕ} {at : ℕ} {x : PlacedTriple} → Bytes s → Read s at x → at + length (annotationBytes (x .triple)) ≤ x .next
+read-least {s} {at} bytes (one {code} {v} c d t) =
+    let op = number-least s at bytes (c .is) in
     let first = number-least s (code .next) bytes d in
-    by-test P (eqb (code .value) 12)
-    (λ t j. came-by (numberAt s (v .next)) _ j λ w k l.
-    let second = number-least s (v .next) bytes k in
-    is _ (omega (arith, rw t at (annotation-least (code .value) (v .value) (w .value)))) l)
-    (λ t j. is _ (omega (arith, rw t at (annotation-least (code .value) (v .value) 0))) j) i) f)
-  where
-    P : Outcome Stop Stepped → Type 0
-    P o = o ≡ ok (annotation x) → at + length (annotationBytes (x .triple)) ≤ x .next
-
-    is : (y : PlacedTriple) → at + length (annotationBytes (y .triple)) ≤ y .next → P (ok (annotation y))
-    is y h e = let f : y ≡ x = cc in rw (← f) h
+    rw (bytes-one (code .value) (v .value) t, length-append) (omega (arith, short-rises (again-most (code .value) (v .value))))
+read-least {s} {at} bytes (two {code} {v} {w} c d e t) =
+    let op = number-least s at bytes (c .is) in
+    let first = number-least s (code .next) bytes d in
+    let second = number-least s (v .next) bytes e in
+    rw (bytes-two (code .value) (v .value) (w .value) t, length-append, length-append) (omega arith)
 
 -- ---- and so does a run
 steps-least : {s : List ℕ} {at e : ℕ} {l : List PlacedTriple} → Bytes s → StepsTo s at l e → at + length (bytesOf (map (λ (x : PlacedTriple). x .triple) l)) ≤ e
 unfolding bytesOf
 steps-least bytes StepsTo.none = omega arith
 steps-least {s} {at} bytes (StepsTo.more {x = x} e r) =
-    rw length-append (omega (arith, step-least s at bytes e, steps-least bytes r))
+    rw length-append (omega (arith, read-least bytes (step-read s at e), steps-least bytes r))
 
-steps-within : {s : List ℕ} {at e : ℕ} {l : List PlacedTriple} → at ≤ length s → StepsTo s at l e → e ≤ length s
+pub steps-within : {s : List ℕ} {at e : ℕ} {l : List PlacedTriple} → at ≤ length s → StepsTo s at l e → e ≤ length s
 steps-within h StepsTo.none = h
 steps-within {s} {at} h (StepsTo.more e r) = steps-within (advanced s at e .within) r
 

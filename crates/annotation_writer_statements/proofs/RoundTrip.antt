@@ -1,6 +1,7 @@
 -- An accepted list: what stands in the store, and that decoding it gives the list again.
 use mathlib.Core.Path.{_≡_, refl, sym, _∙_, ap}
-use mathlib.Core.List.{List, [], _∷_, _++_, append-assoc}
+use mathlib.Core.Bool.{true}
+use mathlib.Core.List.{List, [], _∷_, _++_, append-assoc, map}
 use Prim.Native.Nat.{ℕ, zero, suc, _+_, _*_, _≤_, _<_}
 use native.Mathlib.Omega.{arith}
 use native.Mathlib.Numerals.{add-one, add-two}
@@ -12,7 +13,9 @@ use lib.IntN.{ℤ, pos}
 use Rattle.outcome.specs.Outcome.{ok, require}
 use Rattle.outcome.specs.Store.{written}
 use Rattle.outcome.proofs.OutcomeLaws.{came, came-by, passed, ok-is}
+use Rattle.annotations.specs.Step.{PlacedTriple}
 use Rattle.annotations.specs.declared.annotation.Triple.{Triple}
+use Rattle.decode.specs.Decode as decode
 use Rattle.decode.specs.Decode.{decodeAll, tripleEntries, entries, decodedEntries, decoding}
 use Rattle.annotations_statements.proofs.Statements.{decode-exactly}
 use Rattle.annotation_records.specs.Records.{entriesEach, count, recordAt}
@@ -24,8 +27,8 @@ use Rattle.annotation_writer.specs.Inner.{AllWritable}
 use Rattle.annotation_writer.specs.declared.refusal.Refusal.the-variants.{NoRoom}
 use Rattle.annotation_writer.specs.declared.write.Written.the-variants.{Length}
 use Rattle.annotation_writer.proofs.WriteLaws.{Measured, measured}
-use Rattle.annotation_writer_statements.specs.Statements.{listed, foundIn, RoundTrip, SameEntries}
-use Rattle.annotation_writer_statements.proofs.ReadBack.{Readable, none, more, readable-append, record-reads, placed, placed-triples, decoded}
+use Rattle.annotation_writer_statements.specs.Statements.{listed, foundIn, RoundTrip, withOnes, SameEntries}
+use Rattle.annotation_writer_statements.proofs.ReadBack.{Readable, none, more, readable-append, record-reads, standing, standing-triples, standing-shortest, decoded}
 
 -- ---- acceptance
 pub record Accepted (list : List ℤ) (room n : ℕ) : Type 0 where
@@ -75,11 +78,14 @@ module _ (list : List ℤ) (room n : ℕ) (e : writing list room ≡ ok n) where
   pub fine : Measured list n
   fine = accepted list room n e .list-measured
 
-  run : record { found = placed 0 (listed list); at = length (listBytes list); last = ok (length (listBytes list)) } ≡ decodeAll (listBytes list)
+  run : record { found = standing 0 (listed list); at = length (listBytes list); last = ok (length (listBytes list)) } ≡ decodeAll (listBytes list)
   run = decoded (listed list) (readable list (fine .all) (count list) (omega arith))
 
   finds : foundIn (decodeAll (listBytes list)) ≡ listed list
-  finds = rw (← run) (placed-triples 0 (listed list))
+  finds = rw (← run) (standing-triples 0 (listed list))
+
+  all-shortest : map (λ (x : PlacedTriple). x .shortest) (decodeAll (listBytes list) .found) ≡ map (λ _. true) (listed list)
+  all-shortest = rw (← run) (standing-shortest 0 (listed list))
 
   closes-at : decodeAll (listBytes list) .at ≡ n
   closes-at = rw (← run) (sym (fine .is))
@@ -89,10 +95,11 @@ module _ (list : List ℤ) (room n : ℕ) (e : writing list room ≡ ok n) where
 
 pub round-trip : RoundTrip
 round-trip =
-    record { first = first-bytes; rest = other-bytes; found = finds; closes = closes-at; ends = ends-at }
+    record { first = first-bytes; rest = other-bytes; found = finds; shortest = all-shortest; closes = closes-at; ends = ends-at }
 
 -- ---- the entries
-flat : List Triple → List ℤ
+-- those of annotations one after another, as a list has them
+unfoldable pub flat : List Triple → List ℤ
 flat [] = []
 flat (t ∷ later) = tripleEntries t ++ flat later
 
@@ -101,8 +108,8 @@ unfolding flat
 flat-append [] ys = refl
 flat-append (x ∷ xs) ys = rw (flat-append xs ys)
 
-entries-flat : (at : ℕ) (ts : List Triple) → entries (placed at ts) ≡ flat ts
-unfolding entries placed flat
+entries-flat : (at : ℕ) (ts : List Triple) → entries (standing at ts) ≡ withOnes (flat ts) (length ts)
+unfolding entries standing flat withOnes
 entries-flat at [] = refl
 entries-flat at (t ∷ later) = rw (entries-flat _ later)
 
@@ -121,10 +128,10 @@ flat-list list a (suc k) l =
     flat-append (annotationsIn list k) _
     ∙ rw (flat-list list a k (omega arith), three, take-three list (entriesEach * k) (omega arith), ← opcode)
 
-placed-length : (at : ℕ) (ts : List Triple) → length (placed at ts) ≡ length ts
-unfolding placed
-placed-length at [] = refl
-placed-length at (t ∷ later) = ap suc (placed-length _ later)
+standing-length : (at : ℕ) (ts : List Triple) → length (standing at ts) ≡ length ts
+unfolding standing
+standing-length at [] = refl
+standing-length at (t ∷ later) = ap suc (standing-length _ later)
 
 listed-length : (list : List ℤ) (k : ℕ) → length (annotationsIn list k) ≡ k
 unfolding annotationsIn
@@ -135,14 +142,18 @@ module _ (list : List ℤ) (room n : ℕ) (e : writing list room ≡ ok n) where
   thrice : entriesEach * count list ≡ length list
   thrice = let w = fine list room n e .whole in omega arith
 
-  same-entries-again : decodedEntries (listBytes list) ≡ list
-  same-entries-again =
-      rw (← run list room n e) (entries-flat 0 (listed list) ∙ flat-list list (fine list room n e .all) (count list) (omega arith) ∙ rw thrice (take-all (length list) list (omega arith)))
+  same-list : flat (listed list) ≡ list
+  same-list =
+      flat-list list (fine list room n e .all) (count list) (omega arith) ∙ rw thrice (take-all (length list) list (omega arith))
 
-  decodes-again : (room′ : ℕ) → length list ≤ room′ → decoding (listBytes list) room′ ≡ ok (count list)
+  same-entries-again : decodedEntries (listBytes list) ≡ withOnes list (count list)
+  same-entries-again =
+      rw (← run list room n e) (entries-flat 0 (listed list) ∙ rw (same-list, listed-length list (count list)))
+
+  decodes-again : (room′ : ℕ) → decode.entriesEach * count list ≤ room′ → decoding (listBytes list) room′ ≡ ok (count list)
   decodes-again room′ l =
       decode-exactly .is (listBytes list) room′ (count list) .1
-      (rw (← run list room n e) (sym (placed-length 0 (listed list) ∙ listed-length list (count list))), (n, ends-at list room n e), omega (arith, thrice))
+      (rw (← run list room n e) (sym (standing-length 0 (listed list) ∙ listed-length list (count list))), (n, ends-at list room n e), l)
 
 pub same-entries : SameEntries
 same-entries = record { entries = same-entries-again; decoded = decodes-again }
