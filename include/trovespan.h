@@ -103,36 +103,41 @@ uint32_t trovespan_extract(const uint8_t *file, size_t file_len, uint32_t stream
                            size_t out_len, uint64_t *value);
 
 /*
- * Reads the compressed number at the place `at`. `value` is the number, `next` the place after it or after what is refused.
- * Refuses with 7, and then `next` is `bytes_len`, or with 8.
+ * Reads the compressed number at the place `at`. `value` is the number, `taken` how many bytes it takes: 1, 2 or 4.
+ * `shortest` is 1 if that is the shortest form of the number, else 0: a number below 0x80 fits one byte, one below 0x4000
+ * two, any other takes four. `next` is the place after the number, or after what is refused.
+ *
+ * Refuses with 7, and then `next` is `bytes_len`, or with 8. Then `taken` and `shortest` are 0.
  */
-uint32_t trovespan_number(const uint8_t *bytes, size_t bytes_len, size_t at, uint64_t *value, uint64_t *next);
+uint32_t trovespan_number(const uint8_t *bytes, size_t bytes_len, size_t at, uint64_t *value, uint64_t *taken,
+                          uint64_t *shortest, uint64_t *next);
 
 /*
  * Takes one step over binary annotations, from the place `at`. `value` is the opcode, 1 to 13, or 0 at the end. `first` and
- * `second` are the operands, 0 if there is none. `next` is the place where the next step goes on. After the end, and after
- * 7, that is `bytes_len`.
+ * `second` are the operands, 0 if there is none. `shortest` is 1 if all numbers of the annotation, its opcode among them,
+ * have their shortest form, else 0; it is 0 if there is no annotation. `next` is the place where the next step goes on. After
+ * the end, and after 7, that is `bytes_len`.
  *
  * Refuses with 7, 8 or 9.
  */
 uint32_t trovespan_step(const uint8_t *bytes, size_t bytes_len, size_t at, uint64_t *value, int64_t *first, int64_t *second,
-                        uint64_t *next);
+                        uint64_t *shortest, uint64_t *next);
 
 /*
- * Decodes all annotations to the front of `store`, three entries each: opcode, first operand, second operand or 0. `value`
- * is the number of annotations.
+ * Decodes all annotations to the front of `store`, four entries each: opcode, first operand, second operand or 0, and 1 if
+ * all its numbers have their shortest form, else 0. `value` is the number of annotations.
  *
  * Refuses with the first refusal of a step, and then `place` is the place after it; if there is none, with 10 if the store
- * has fewer than three entries for each annotation. Otherwise `place` is 0.
+ * has fewer than four entries for each annotation. Otherwise `place` is 0.
  */
 uint32_t trovespan_decode(const uint8_t *bytes, size_t bytes_len, int64_t *store, size_t store_len, uint64_t *value,
                           uint64_t *place);
 
 /*
- * Writes annotations as bytes to the front of `out`. `records` has three numbers for each, as trovespan_decode writes them:
- * opcode, first operand, second operand or 0. `value` is the number of bytes written. Every number has its shortest form, no
- * opcode 0 closes the bytes, and decoding them gives the same records. A record takes 2 to 9 bytes. The empty list is
- * accepted, and writes nothing.
+ * Writes annotations as bytes to the front of `out`. `records` has three numbers for each, the first three of the four that
+ * trovespan_decode writes: opcode, first operand, second operand or 0. `value` is the number of bytes written. Every number
+ * has its shortest form, and no opcode 0 closes the bytes. Decoding them gives the same records, each with a fourth entry 1.
+ * A record takes 2 to 9 bytes. The empty list is accepted, and writes nothing.
  *
  *     opcode                first operand              second operand
  *     1 to 5, 7 to 9, 13    0 to 536870911             0

@@ -1,6 +1,6 @@
 use std::process::ExitCode;
 use std::{env, error::Error, fs};
-use trovespan::{Container, AT_MOST};
+use trovespan::{Container, AT_MOST, ENTRIES_EACH, RECORD_ENTRIES};
 
 fn main() -> ExitCode {
     match show() {
@@ -22,14 +22,16 @@ fn show() -> Result<(), Box<dyn Error>> {
     let stream = container.stream(1).bytes(AT_MOST)?;
     println!("stream 1: {} bytes", stream.len());
 
-    // Three numbers for each annotation: opcode, first operand, second operand or 0.
-    let mut store = [0; 6];
-    let annotations = trovespan::decode(&[0x0b, 0x72, 0x06, 0x0f], &mut store)?;
+    // Four numbers for each annotation: opcode, first operand, second operand or 0, and 1 if all its numbers have their
+    // shortest form, else 0. Here the operand 0x0f has a longer one.
+    let mut store = [0; 8];
+    let annotations = trovespan::decode(&[0x0b, 0x72, 0x06, 0x80, 0x0f], &mut store)?;
     println!("annotations {annotations}: {store:?}");
 
-    // The same numbers as bytes again, each in its shortest form.
+    // The first three of each as bytes again, in their shortest form.
+    let records: Vec<i64> = store.chunks(ENTRIES_EACH).flat_map(|each| &each[..RECORD_ENTRIES]).copied().collect();
     let mut out = [0; 4];
-    let length = trovespan::write_annotations(&store, &mut out)?;
+    let length = trovespan::write_annotations(&records, &mut out)?;
     println!("written {length}: {out:02x?}");
     Ok(())
 }

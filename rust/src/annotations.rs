@@ -2,6 +2,17 @@
 
 use crate::{ffi, Kind, Refusal};
 
+/// What [`number`] reads.
+#[derive(Clone, Copy, Debug, PartialEq, Eq, Hash)]
+pub struct Number {
+    /// The number, at most 536870911.
+    pub value: u32,
+    /// How many bytes it takes: 1, 2 or 4.
+    pub taken: usize,
+    /// Whether that is its shortest form: one byte for a number below 0x80, two for one below 0x4000, else four.
+    pub shortest: bool,
+}
+
 /// What [`step`] finds.
 #[derive(Clone, Copy, Debug, PartialEq, Eq, Hash)]
 pub enum Step {
@@ -14,6 +25,8 @@ pub enum Step {
         first: i64,
         /// The second operand, or 0 if it has none.
         second: i64,
+        /// Whether all its numbers, the opcode among them, have their shortest form.
+        shortest: bool,
     },
     /// There are no more annotations.
     End,
@@ -37,11 +50,16 @@ pub struct DecodeRefusal {
 /// Refuses with 7 or 8, which also have a place after them. After 7 that is the end of the bytes.
 ///
 /// ```
-/// assert_eq!(trovespan::number(&[0x81, 0x02], 0), (Ok(0x102), 2));
+/// use trovespan::{number, Number};
+///
+/// assert_eq!(number(&[0x81, 0x02], 0), (Ok(Number { value: 0x102, taken: 2, shortest: true }), 2));
+/// // A longer form of a number that fits one byte.
+/// assert_eq!(number(&[0x80, 0x7f], 0), (Ok(Number { value: 127, taken: 2, shortest: false }), 2));
 /// ```
-pub fn number(bytes: &[u8], at: usize) -> (Result<u32, Refusal>, usize) {
-    let (number, value, next) = ffi::number(bytes, at);
-    (Refusal::judge(number, value).map(|()| value as u32), next as usize)
+pub fn number(bytes: &[u8], at: usize) -> (Result<Number, Refusal>, usize) {
+    let (number, value, taken, shortest, next) = ffi::number(bytes, at);
+    let read = Number { value: value as u32, taken: taken as usize, shortest: shortest == ffi::SHORTEST };
+    (Refusal::judge(number, value).map(|()| read), next as usize)
 }
 
 /// Takes one step over binary annotations. Returns what is at a place, and the place after it, where the next step goes
@@ -55,20 +73,20 @@ pub fn number(bytes: &[u8], at: usize) -> (Result<u32, Refusal>, usize) {
 /// ```
 #[must_use]
 pub fn step(bytes: &[u8], at: usize) -> (Step, usize) {
-    let (number, value, first, second, next) = ffi::step(bytes, at);
+    let (number, value, first, second, shortest, next) = ffi::step(bytes, at);
     let step = match (Refusal::judge(number, value), value as u32) {
         (Err(why), _) => Step::Refused(why),
         (Ok(()), ffi::NO_OPCODE) => Step::End,
-        (Ok(()), opcode) => Step::Annotation { opcode, first, second },
+        (Ok(()), opcode) => Step::Annotation { opcode, first, second, shortest: shortest == ffi::SHORTEST },
     };
     (step, next as usize)
 }
 
 /// How many entries of its store [`decode`] writes for an annotation.
-pub const ENTRIES_EACH: usize = 3;
+pub const ENTRIES_EACH: usize = 4;
 
 /// Decodes all annotations to the front of `store`, [`ENTRIES_EACH`] entries each: opcode, first operand, second
-/// operand or 0. Returns how many annotations there are.
+/// operand or 0, and 1 if all its numbers have their shortest form, else 0. Returns how many annotations there are.
 ///
 /// # Errors
 ///
@@ -76,9 +94,9 @@ pub const ENTRIES_EACH: usize = 3;
 /// entries for each annotation.
 ///
 /// ```
-/// let mut store = [0; 6];
-/// assert_eq!(trovespan::decode(&[3, 5, 11, 0x72], &mut store), Ok(2));
-/// assert_eq!(store, [3, 5, 0, 11, 2, -3]);
+/// let mut store = [0; 8];
+/// assert_eq!(trovespan::decode(&[3, 5, 11, 0x80, 0x72], &mut store), Ok(2));
+/// assert_eq!(store, [3, 5, 0, 1, 11, 2, -3, 0]);
 /// ```
 pub fn decode(bytes: &[u8], store: &mut [i64]) -> Result<usize, DecodeRefusal> {
     let (number, value, place) = ffi::decode(bytes, store);
@@ -89,14 +107,18 @@ pub fn decode(bytes: &[u8], store: &mut [i64]) -> Result<usize, DecodeRefusal> {
     Ok(value as usize)
 }
 
-/// Writes annotations as bytes to the front of `out`, and returns the number of bytes written. `records` has three
-/// numbers for each annotation, as [`decode`] and [`BinaryAnnotation::triple`] give them: opcode, first operand, second
-/// operand or 0. The empty list is accepted, and writes nothing.
+/// How many entries a record has that [`write_annotations`] takes: the first three of the [`ENTRIES_EACH`] that
+/// [`decode`] writes. The fourth, about the form of the numbers, is left out: they are always written in the shortest.
+pub const RECORD_ENTRIES: usize = 3;
+
+/// Writes annotations as bytes to the front of `out`, and returns the number of bytes written. `records` has
+/// [`RECORD_ENTRIES`] numbers for each annotation, as [`BinaryAnnotation::triple`] gives them: opcode, first operand,
+/// second operand or 0. The empty list is accepted, and writes nothing.
 ///
 /// Every number is written in its shortest form, and no opcode 0 closes the bytes. A record takes 2 to 9 bytes.
 ///
-/// Decoding the bytes gives the same records. Writing what was decoded may give other bytes: a number also has longer
-/// forms, and a signed operand of 1 reads as 0 too.
+/// Decoding the bytes gives the same records, each with a fourth entry 1. Writing what was decoded may give other
+/// bytes: a number also has longer forms, which the fourth entry tells, and a signed operand of 1 reads as 0 too.
 ///
 /// What a record may hold:
 ///
@@ -114,16 +136,20 @@ pub fn decode(bytes: &[u8], store: &mut [i64]) -> Result<usize, DecodeRefusal> {
 /// `out` unchanged.
 ///
 /// ```
-/// use trovespan::{decode, write_annotations, Refusal};
+/// use trovespan::{decode, write_annotations, Refusal, ENTRIES_EACH, RECORD_ENTRIES};
 ///
 /// let records = [3, 200, 0, 11, 2, -3];
 /// let mut out = [0; 18];
 /// let length = write_annotations(&records, &mut out)?;
 /// assert_eq!(out[..length], [3, 0x80, 200, 11, 0x72]);
 ///
-/// let mut store = [0; 6];
+/// // The fourth entries say that the forms are the shortest. The others are the records.
+/// let mut store = [0; 8];
 /// assert_eq!(decode(&out[..length], &mut store), Ok(2));
-/// assert_eq!(store, records);
+/// assert_eq!(store, [3, 200, 0, 1, 11, 2, -3, 1]);
+/// let decoded: Vec<i64> =
+///     store.chunks(ENTRIES_EACH).flat_map(|entries| &entries[..RECORD_ENTRIES]).copied().collect();
+/// assert_eq!(decoded, records);
 ///
 /// // An empty `out` asks for the length.
 /// assert_eq!(write_annotations(&records, &mut []), Err(Refusal { number: 10, value: 5 }));

@@ -12,11 +12,11 @@
 //! let slice = trovespan::SourceSlice { offset: 2560, size: 512 };
 //! ```
 //! ```compile_fail,E0639
-//! let step = trovespan::Step::Annotation { opcode: 3, first: 5, second: 0 };
+//! let step = trovespan::Step::Annotation { opcode: 3, first: 5, second: 0, shortest: true };
 //! ```
 //! ```compile_fail,E0639
 //! let annotation = trovespan::BinaryAnnotation::CodeOffset(5);
-//! let placed = trovespan::PlacedAnnotation { annotation, at: 0, next: 2 };
+//! let placed = trovespan::PlacedAnnotation { annotation, shortest: true, at: 0, next: 2 };
 //! ```
 //! ```compile_fail,E0639
 //! let refusal = trovespan::Refusal { number: 7, value: 0 };

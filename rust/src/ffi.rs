@@ -44,7 +44,15 @@ mod c {
             out_len: usize,
             value: *mut u64,
         ) -> u32;
-        pub fn trovespan_number(bytes: *const u8, bytes_len: usize, at: usize, value: *mut u64, next: *mut u64) -> u32;
+        pub fn trovespan_number(
+            bytes: *const u8,
+            bytes_len: usize,
+            at: usize,
+            value: *mut u64,
+            taken: *mut u64,
+            shortest: *mut u64,
+            next: *mut u64,
+        ) -> u32;
         pub fn trovespan_step(
             bytes: *const u8,
             bytes_len: usize,
@@ -52,6 +60,7 @@ mod c {
             value: *mut u64,
             first: *mut i64,
             second: *mut i64,
+            shortest: *mut u64,
             next: *mut u64,
         ) -> u32;
         pub fn trovespan_decode(
@@ -84,6 +93,9 @@ mod c {
 
 /// The opcode of a step at the end.
 pub const NO_OPCODE: u32 = 0;
+
+/// The flag of a number, or of an annotation's numbers, in their shortest form.
+pub const SHORTEST: u64 = 1;
 
 pub fn open(file: &[u8]) -> (u32, u64, u64) {
     let (mut value, mut used) = (0, 0);
@@ -140,20 +152,33 @@ pub fn extract(file: &[u8], stream: u32, limit: Option<usize>, out: &mut [u8]) -
     (number, value)
 }
 
-pub fn number(bytes: &[u8], at: usize) -> (u32, u64, u64) {
-    let (mut value, mut next) = (0, 0);
-    // SAFETY: `bytes` is borrowed for the call, with its own length; `value` and `next` are different local numbers.
-    let number = unsafe { c::trovespan_number(bytes.as_ptr(), bytes.len(), at, &mut value, &mut next) };
-    (number, value, next)
+pub fn number(bytes: &[u8], at: usize) -> (u32, u64, u64, u64, u64) {
+    let (mut value, mut taken, mut shortest, mut next) = (0, 0, 0, 0);
+    // SAFETY: `bytes` is borrowed for the call, with its own length; `value`, `taken`, `shortest` and `next` are
+    // different local numbers.
+    let number = unsafe {
+        c::trovespan_number(bytes.as_ptr(), bytes.len(), at, &mut value, &mut taken, &mut shortest, &mut next)
+    };
+    (number, value, taken, shortest, next)
 }
 
-pub fn step(bytes: &[u8], at: usize) -> (u32, u64, i64, i64, u64) {
-    let (mut value, mut first, mut second, mut next) = (0, 0, 0, 0);
-    let number =
-        // SAFETY: `bytes` is borrowed for the call, with its own length; `value`, `first`, `second` and `next` are
-        // different local numbers.
-        unsafe { c::trovespan_step(bytes.as_ptr(), bytes.len(), at, &mut value, &mut first, &mut second, &mut next) };
-    (number, value, first, second, next)
+pub fn step(bytes: &[u8], at: usize) -> (u32, u64, i64, i64, u64, u64) {
+    let (mut value, mut first, mut second, mut shortest, mut next) = (0, 0, 0, 0, 0);
+    // SAFETY: `bytes` is borrowed for the call, with its own length; `value`, `first`, `second`, `shortest` and `next`
+    // are different local numbers.
+    let number = unsafe {
+        c::trovespan_step(
+            bytes.as_ptr(),
+            bytes.len(),
+            at,
+            &mut value,
+            &mut first,
+            &mut second,
+            &mut shortest,
+            &mut next,
+        )
+    };
+    (number, value, first, second, shortest, next)
 }
 
 pub fn decode(bytes: &[u8], store: &mut [i64]) -> (u32, u64, u64) {

@@ -10,6 +10,8 @@ use core::iter::FusedIterator;
 pub struct PlacedAnnotation {
     /// The annotation.
     pub annotation: BinaryAnnotation,
+    /// Whether all its numbers, the opcode among them, have their shortest form.
+    pub shortest: bool,
     /// Where it begins.
     pub at: usize,
     /// The place after it.
@@ -44,7 +46,7 @@ pub struct Annotations<'a> {
 /// ```
 /// use trovespan::{annotations, BinaryAnnotation, Kind};
 ///
-/// let mut items = annotations(&[6, 15, 14, 3, 5]);
+/// let mut items = annotations(&[6, 15, 14, 3, 0x80, 5]);
 ///
 /// let found = items.next().unwrap().unwrap();
 /// assert_eq!(found.annotation, BinaryAnnotation::ChangeLineOffset(-7));
@@ -57,6 +59,7 @@ pub struct Annotations<'a> {
 /// let last = items.next().unwrap().unwrap();
 /// assert_eq!(last.annotation, BinaryAnnotation::ChangeCodeOffset(5));
 /// assert!(last.annotation.emits_line_info());
+/// assert!(!last.shortest); // 5 takes two bytes here
 /// assert_eq!(items.next(), None);
 /// ```
 #[must_use]
@@ -81,16 +84,13 @@ impl Iterator for Annotations<'_> {
         self.place = next;
         let found = match step {
             // The library gives opcodes and operands that make an annotation.
-            Step::Annotation { opcode, first, second } => {
-                BinaryAnnotation::new(opcode, first, second).ok_or_else(|| Refusal::unknown_annotation(opcode))
-            }
+            Step::Annotation { opcode, first, second, shortest } => BinaryAnnotation::new(opcode, first, second)
+                .map(|annotation| PlacedAnnotation { annotation, shortest, at, next })
+                .ok_or_else(|| Refusal::unknown_annotation(opcode)),
             Step::End => return None,
             Step::Refused(refusal) => Err(refusal),
         };
-        Some(match found {
-            Ok(annotation) => Ok(PlacedAnnotation { annotation, at, next }),
-            Err(refusal) => Err(PlacedRefusal { refusal, at, next }),
-        })
+        Some(found.map_err(|refusal| PlacedRefusal { refusal, at, next }))
     }
 }
 

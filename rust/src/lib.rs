@@ -3,7 +3,8 @@
 //! - [`Container`] and [`Stream`] read a container, and allocate no more than the caller allows.
 //! - [`annotations`](annotations()) iterates over annotations.
 //! - Below these, [`open`], [`stream_count`], [`map`] and [`extract`] read a container into stores that the caller
-//!   lends, and [`number`], [`step`] and [`decode`] read annotations as numbers.
+//!   lends, and [`number`], [`step`] and [`decode`] read annotations as numbers, and say whether these have their
+//!   shortest form.
 //! - [`write_container`] and [`write_annotations`] write them, into stores that the caller lends.
 //!
 //! Every function returns for any input.
@@ -111,7 +112,8 @@ mod mapping;
 mod msf;
 mod refusal;
 
-pub use annotations::{decode, number, step, write_annotations, DecodeRefusal, Step, ENTRIES_EACH};
+pub use annotations::{decode, number, step, write_annotations};
+pub use annotations::{DecodeRefusal, Number, Step, ENTRIES_EACH, RECORD_ENTRIES};
 pub use binary_annotation::{BinaryAnnotation, FileIndex};
 pub use container::{Container, Stream};
 #[cfg(feature = "alloc")]

@@ -3,14 +3,14 @@
 //! Some of the library's numbers are large only for inputs that no test can lend, such as 2^32 annotations. So
 //! functions of the same names stand in for the library here: the linker prefers a program's own functions. Each
 //! returns the first byte or number that it is lent, and writes numbers of 64 bits: those that it is given, or `VALUE`
-//! and `OTHER`.
+//! and `OTHER`. A flag is the last bit of the place.
 
 mod fields;
 
 use fields::{map_counts, opened, stepped, Found};
 use trovespan::{
     annotations, decode, extract, number, slice_count, stream_count, stream_length, write_annotations, write_container,
-    DecodeRefusal, Refusal,
+    DecodeRefusal, Number, Refusal,
 };
 
 const VALUE: u64 = 0xfedc_ba98_7654_3210;
@@ -64,8 +64,16 @@ unsafe extern "C" fn trovespan_extract(
 }
 
 #[no_mangle]
-unsafe extern "C" fn trovespan_number(bytes: *const u8, _: usize, at: usize, value: *mut u64, next: *mut u64) -> u32 {
-    (*value, *next) = (VALUE, at as u64);
+unsafe extern "C" fn trovespan_number(
+    bytes: *const u8,
+    _: usize,
+    at: usize,
+    value: *mut u64,
+    taken: *mut u64,
+    shortest: *mut u64,
+    next: *mut u64,
+) -> u32 {
+    (*value, *taken, *shortest, *next) = (VALUE, OTHER, at as u64 % 2, at as u64);
     u32::from(*bytes)
 }
 
@@ -77,9 +85,11 @@ unsafe extern "C" fn trovespan_step(
     value: *mut u64,
     first: *mut i64,
     second: *mut i64,
+    shortest: *mut u64,
     next: *mut u64,
 ) -> u32 {
-    (*value, *first, *second, *next) = (VALUE, i64::MIN + 1, i64::MAX - 1, at as u64);
+    (*value, *first, *second) = (VALUE, i64::MIN + 1, i64::MAX - 1);
+    (*shortest, *next) = (at as u64 % 2, at as u64);
     u32::from(*bytes)
 }
 
@@ -187,9 +197,11 @@ fn an_opcode_that_has_no_name() {
 
 #[test]
 fn numbers_and_steps() {
-    let found = Found::Annotation(VALUE as u32, i64::MIN + 1, i64::MAX - 1);
     for at in [0, 1 << 16, 1 << 32, OTHER, u64::MAX].map(|at| at as usize) {
-        assert_eq!(number(&[0], at), (Ok(VALUE as u32), at));
+        let shortest = at % 2 == 1;
+        let read = Number { value: VALUE as u32, taken: OTHER as usize, shortest };
+        let found = Found::Annotation(VALUE as u32, i64::MIN + 1, i64::MAX - 1, shortest);
+        assert_eq!(number(&[0], at), (Ok(read), at));
         assert_eq!(number(&[8], at), (Err(refusal(8)), at));
         assert_eq!(stepped(&[0], at), (found, at));
         assert_eq!(stepped(&[9], at), (Found::Refused(refusal(9)), at));

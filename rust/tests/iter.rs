@@ -8,12 +8,14 @@ fn named(bytes: &[u8]) -> Result<Vec<BinaryAnnotation>, Refusal> {
     annotations(bytes).map(|item| Ok(item?.annotation)).collect()
 }
 
-/// An item: what is found, where it begins, and the place after it.
-type Item = (Result<BinaryAnnotation, Refusal>, usize, usize);
+/// An item: what is found, and whether its numbers have their shortest form; where it begins, and the place after it.
+type Item = (Result<(BinaryAnnotation, bool), Refusal>, usize, usize);
 
 fn items(bytes: &[u8]) -> Vec<Item> {
     let item = |item| match item {
-        Ok(trovespan::PlacedAnnotation { annotation, at, next, .. }) => (Ok(annotation), at, next),
+        Ok(trovespan::PlacedAnnotation { annotation, shortest, at, next, .. }) => {
+            (Ok((annotation, shortest)), at, next)
+        }
         Err(trovespan::PlacedRefusal { refusal, at, next, .. }) => (Err(refusal), at, next),
     };
     annotations(bytes).map(item).collect()
@@ -26,8 +28,8 @@ fn items_by_steps(bytes: &[u8]) -> Vec<Item> {
     loop {
         let (found, next) = step(bytes, at);
         match found {
-            Step::Annotation { opcode, first, second, .. } => {
-                items.push((Ok(BinaryAnnotation::new(opcode, first, second).unwrap()), at, next));
+            Step::Annotation { opcode, first, second, shortest, .. } => {
+                items.push((Ok((BinaryAnnotation::new(opcode, first, second).unwrap(), shortest)), at, next));
             }
             Step::End => return items,
             Step::Refused(why) => items.push((Err(why), at, next)),
@@ -152,12 +154,25 @@ fn what_is_no_annotation() {
 #[test]
 fn goes_on_after_refusals() {
     let invalid = [3, 0xe0, 0, 0, 0, 3, 7];
-    assert_eq!(items(&invalid), [(Err(refusal(8, 0)), 0, 5), (Ok(ChangeCodeOffset(7)), 5, 7)]);
+    assert_eq!(items(&invalid), [(Err(refusal(8, 0)), 0, 5), (Ok((ChangeCodeOffset(7), true)), 5, 7)]);
     let unknown = [14, 3, 7];
-    assert_eq!(items(&unknown), [(Err(refusal(9, 14)), 0, 1), (Ok(ChangeCodeOffset(7)), 1, 3)]);
+    assert_eq!(items(&unknown), [(Err(refusal(9, 14)), 0, 1), (Ok((ChangeCodeOffset(7), true)), 1, 3)]);
     let short = [3, 7, 12, 1];
-    assert_eq!(items(&short), [(Ok(ChangeCodeOffset(7)), 0, 2), (Err(refusal(7, 0)), 2, 4)]);
+    assert_eq!(items(&short), [(Ok((ChangeCodeOffset(7), true)), 0, 2), (Err(refusal(7, 0)), 2, 4)]);
     assert_eq!(named(&unknown), Err(refusal(9, 14)));
+}
+
+#[test]
+fn says_which_forms_are_the_shortest() {
+    let bytes = [3, 7, 3, 0x80, 7, 0x80, 3, 7, 12, 1, 2, 12, 1, 0x80, 2];
+    let wanted = [
+        (Ok((ChangeCodeOffset(7), true)), 0, 2),
+        (Ok((ChangeCodeOffset(7), false)), 2, 5),
+        (Ok((ChangeCodeOffset(7), false)), 5, 8),
+        (Ok((ChangeCodeLengthAndCodeOffset(1, 2), true)), 8, 11),
+        (Ok((ChangeCodeLengthAndCodeOffset(1, 2), false)), 11, 15),
+    ];
+    assert_eq!(items(&bytes), wanted);
 }
 
 #[test]

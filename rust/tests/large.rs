@@ -7,7 +7,7 @@ mod zeros;
 
 use fields::{map_counts, opened, stepped, Found};
 use files::*;
-use trovespan::{decode, extract, number, stream_count, write_container, DecodeRefusal, Refusal};
+use trovespan::{decode, extract, number, stream_count, write_container, DecodeRefusal, Number, Refusal, ENTRIES_EACH};
 use zeros::zeros;
 
 /// The first numbers that take 17 and 33 bits.
@@ -29,7 +29,7 @@ fn files_over_4_gib() {
     assert_eq!(out[..], stream_2());
 }
 
-/// Two entries are needed, or three. A success writes only these.
+/// Two entries are needed, or four. A success writes only these.
 #[test]
 fn stores_over_2_32_entries() {
     let mapped = Ok((2, 600));
@@ -42,7 +42,7 @@ fn stores_over_2_32_entries() {
 
     let store = zeros::<i64>(BITS_33 + 1);
     assert_eq!(decode(&[3, 5], store), Ok(1));
-    assert_eq!(store[..4], [3, 5, 0, 0]);
+    assert_eq!(store[..5], [3, 5, 0, 1, 0]);
 }
 
 #[test]
@@ -58,15 +58,15 @@ fn strings_over_4_gib() {
     let bytes = zeros::<u8>(BITS_33 + 1);
     bytes[..2].copy_from_slice(&[3, 5]);
     bytes[BITS_33 - 2..].copy_from_slice(&[12, 0x7f, 0]);
-    let found = Found::Annotation(12, 127, 0);
+    let found = Found::Annotation(12, 127, 0, true);
     assert_eq!(stepped(bytes, BITS_33 - 2), (found, BITS_33 + 1));
     assert_eq!(stepped(bytes, BITS_33 - 1), (Found::Refused(Refusal { number: 9, value: 127 }), BITS_33));
     assert_eq!(stepped(bytes, BITS_33), (Found::End, BITS_33 + 1));
-    assert_eq!(number(bytes, BITS_33), (Ok(0), BITS_33 + 1));
+    assert_eq!(number(bytes, BITS_33), (Ok(Number { value: 0, taken: 1, shortest: true }), BITS_33 + 1));
     assert_eq!(number(bytes, BITS_33 + 1), (Err(SHORT_DATA), BITS_33 + 1));
-    let mut store = [0; 3];
+    let mut store = [0; 4];
     assert_eq!(decode(bytes, &mut store), Ok(1));
-    assert_eq!(store, [3, 5, 0]);
+    assert_eq!(store, [3, 5, 0, 1]);
 }
 
 #[test]
@@ -125,13 +125,13 @@ fn limits_far_past_a_stream() {
 fn more_than_65536_annotations() {
     let count = BITS_17 + 5;
     let mut bytes = vec![1; 2 * count];
-    let mut store = vec![0; 3 * count];
-    assert_eq!(number(&bytes, 2 * count - 1), (Ok(1), 2 * count));
-    assert_eq!(stepped(&bytes, 2 * count - 2), (Found::Annotation(1, 1, 0), 2 * count));
+    let mut store = vec![0; ENTRIES_EACH * count];
+    assert_eq!(number(&bytes, 2 * count - 1), (Ok(Number { value: 1, taken: 1, shortest: true }), 2 * count));
+    assert_eq!(stepped(&bytes, 2 * count - 2), (Found::Annotation(1, 1, 0, true), 2 * count));
     assert_eq!(decode(&bytes, &mut store), Ok(count));
-    assert!(store.chunks(3).all(|annotation| annotation == [1, 1, 0]));
+    assert!(store.chunks(ENTRIES_EACH).all(|annotation| annotation == [1, 1, 0, 1]));
 
-    let no_room = Refusal { number: 10, value: 3 * count as u64 };
+    let no_room = Refusal { number: 10, value: (ENTRIES_EACH * count) as u64 };
     assert_eq!(decode(&bytes, &mut store[1..]), Err(DecodeRefusal { refusal: no_room, place: None }));
 
     bytes.extend([0xdf, 0xff, 0xff, 0xff]);

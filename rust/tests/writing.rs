@@ -2,7 +2,7 @@
 //! decoded again.
 
 use std::ops::RangeInclusive;
-use trovespan::{annotations, decode, write_annotations, Refusal};
+use trovespan::{annotations, decode, write_annotations, Refusal, ENTRIES_EACH, RECORD_ENTRIES};
 
 /// What `out` holds before a call.
 const BEFORE: u8 = 0x5e;
@@ -38,16 +38,26 @@ fn written(records: &[i64], room: usize) -> Result<Vec<u8>, Refusal> {
 }
 
 fn decoded(bytes: &[u8]) -> Vec<i64> {
-    let mut store = vec![0; bytes.len() / 2 * 3];
+    let mut store = vec![0; bytes.len() / 2 * ENTRIES_EACH];
     let count = decode(bytes, &mut store).unwrap();
-    store.truncate(3 * count);
+    store.truncate(ENTRIES_EACH * count);
     store
+}
+
+/// The records that bytes decode to, in whatever forms their numbers are.
+fn records_in(bytes: &[u8]) -> Vec<i64> {
+    decoded(bytes).chunks(ENTRIES_EACH).flat_map(|entries| &entries[..RECORD_ENTRIES]).copied().collect()
+}
+
+/// What records decode to once they are written: each with a fourth entry 1.
+fn in_shortest_forms(records: &[i64]) -> Vec<i64> {
+    records.chunks(RECORD_ENTRIES).flat_map(|record| [record, &[1]].concat()).collect()
 }
 
 /// Writes one record, which decodes to itself.
 fn record(opcode: i64, first: i64, second: i64) -> Vec<u8> {
     let bytes = written(&[opcode, first, second], LONGEST).unwrap();
-    assert_eq!(decoded(&bytes), [opcode, first, second]);
+    assert_eq!(decoded(&bytes), [opcode, first, second, 1]);
     bytes
 }
 
@@ -247,8 +257,8 @@ fn writes_nothing() {
 fn writes_long_lists() {
     let numbers = (0..20_000).step_by(9);
     let records: Vec<i64> = numbers.flat_map(|n| [3, n, 0, 6, -n, 0, 11, n % 16, n, 12, LARGEST, n]).collect();
-    let bytes = written(&records, LONGEST * records.len() / 3).unwrap();
-    assert_eq!(decoded(&bytes), records);
+    let bytes = written(&records, LONGEST * records.len() / RECORD_ENTRIES).unwrap();
+    assert_eq!(decoded(&bytes), in_shortest_forms(&records));
     assert_eq!(written(&records, bytes.len()), Ok(bytes.clone()));
     assert_eq!(written(&records, bytes.len() - 1), Err(no_room(bytes.len())));
 }
@@ -263,7 +273,7 @@ fn writes_what_was_read() {
     for string in strings {
         let closed = [string, &[0, 0]].concat();
         let triples: Vec<i64> = annotations(&closed).flat_map(|item| item.unwrap().annotation.triple()).collect();
-        assert_eq!(triples, decoded(&closed));
+        assert_eq!(decoded(&closed), in_shortest_forms(&triples));
         assert_eq!(written(&triples, string.len()), Ok(string.to_vec()));
     }
 }
@@ -271,5 +281,17 @@ fn writes_what_was_read() {
 #[test]
 fn writes_longer_forms_shorter() {
     let long = [0x80, 3, 0xc0, 0, 0, 5, 6, 1, 0xc0, 0, 0, 11, 0x80, 0x1f, 0, 9];
-    assert_eq!(written(&decoded(&long), 6), Ok(vec![3, 5, 6, 0, 11, 15]));
+    assert_eq!(decoded(&long), [3, 5, 0, 0, 6, 0, 0, 1, 11, 15, 0, 0]);
+    assert_eq!(written(&records_in(&long), 6), Ok(vec![3, 5, 6, 0, 11, 15]));
+}
+
+/// All four entries of an annotation are no record: what is written of one is not about the forms of its numbers.
+#[test]
+fn takes_no_fourth_entry() {
+    for entries in [[3, 5, 0, 1], [3, 5, 0, 0]] {
+        for room in ROOMS {
+            assert_eq!(written(&entries, room), Err(RAGGED_LIST));
+            assert_eq!(written(&entries.repeat(3), room), Err(bad_record(1)));
+        }
+    }
 }

@@ -1,13 +1,16 @@
 -- The answers about binary annotations as they cross: an operation's promise and the variant of its answer give the
 -- numbers that the exported function's promise names.
-use mathlib.Core.Path.{_≡_, sym, _∙_, ap}
+use mathlib.Core.Path.{_≡_, refl, sym, _∙_, ap}
+use mathlib.Core.Bool.{Bool, true, false}
 use mathlib.Core.List.{List}
 use Prim.Native.Nat.{ℕ}
 use lib.IntN.{ℤ, pos}
+use mir.Val.{boolByte}
 use Rattle.outcome.specs.Outcome.{ok, refused, raise}
 use Rattle.numbers.specs.Refusal.{stopIn, refusalIn}
+use Rattle.numbers.specs.Number.{flag}
 use Rattle.annotations.specs.Annotation.{annotationOf}
-use Rattle.annotations.specs.Step.{annotation, end}
+use Rattle.annotations.specs.Step.{annotation, end, placed}
 use Rattle.decode.specs.Decode.{withPlace, noRoom}
 use Rattle.numbers.specs.Promises.{uncompressedIn, Uncompressing}
 use Rattle.annotations.specs.Inner.{readIn, Reading}
@@ -27,44 +30,49 @@ use Rattle.annotation_writer.specs.Promises.{writtenIn, Writing}
 use Rattle.annotation_writer.specs.declared.refusal.Refusal as why-writer
 use Rattle.annotation_writer.specs.declared.write.Written.{Written}
 use Rattle.annotation_writer.specs.declared.write.Written.the-variants as written-variants
-use Rattle.trovespan.specs.Crossing.{told, opcodeOf, firstOf, secondOf, nextOf, placeOr0}
+use Rattle.trovespan.specs.Crossing.{told, opcodeOf, firstOf, secondOf, shortestOf, nextOf, placeOr0}
 use Rattle.trovespan.specs.Promises.{Numbers, Steps, Decodes, Writes}
+
+-- ---- a bool crosses as its number
+flag-crosses : (shortest : Bool) → boolByte shortest ≡ flag shortest
+flag-crosses true = refl
+flag-crosses false = refl
 
 -- ---- `trovespan_number`
 module _ {s : List ℕ} {at : ℕ} {r : Uncompressed} (p : Uncompressing s at r) where
-  pub numbers-value : {n : Number} → r ≡ uncompressed.Value n → Numbers s at 0 (n .value) (n .next)
+  pub numbers-value : {n : Number} → r ≡ uncompressed.Value n → Numbers s at 0 (n .value) (n .taken) (boolByte (n .shortest)) (n .next)
   unfolding told raise uncompressedIn
   numbers-value {n} e =
       let k : _ ≡ ok n = sym (p .answer) ∙ ap uncompressedIn e in
-      record { answer = record { number = rw k; value = rw k }; next-told = rw k }
+      record { answer = record { number = rw k; value = rw k }; taken-told = rw k; shortest-told = rw k (flag-crosses (n .shortest)); next-told = rw k }
 
-  pub numbers-refused : {why : PlacedRefusal} {n v : ℕ} → r ≡ uncompressed.Refused why → n ≡ refusalIn (why .refusal) .number → v ≡ refusalIn (why .refusal) .value → Numbers s at n v (why .place)
+  pub numbers-refused : {why : PlacedRefusal} {n v : ℕ} → r ≡ uncompressed.Refused why → n ≡ refusalIn (why .refusal) .number → v ≡ refusalIn (why .refusal) .value → Numbers s at n v 0 0 (why .place)
   unfolding told raise uncompressedIn
   numbers-refused {why} e n v =
       let k : _ ≡ refused (stopIn why) = sym (p .answer) ∙ ap uncompressedIn e in
-      record { answer = record { number = rw k n; value = rw k v }; next-told = rw k }
+      record { answer = record { number = rw k n; value = rw k v }; taken-told = rw k; shortest-told = rw k; next-told = rw k }
 
 pub ruleset number-cases = (numbers-value, numbers-refused)
 
 -- ---- `trovespan_step`
 module _ {s : List ℕ} {at : ℕ} {r : OperandStep} (p : Reading s at r) where
-  pub steps-annotation : {a : Operands} {t : Triple} {x y : ℤ} → r ≡ read.Annotation a → t ≡ annotationOf (a .opcode) (a .first) (a .second) → x ≡ t .first → y ≡ t .second → Steps s at 0 (t .opcode) x y (a .next)
-  unfolding told raise readIn opcodeOf firstOf secondOf nextOf
+  pub steps-annotation : {a : Operands} {t : Triple} {x y : ℤ} → r ≡ read.Annotation a → t ≡ annotationOf (a .opcode) (a .first) (a .second) → x ≡ t .first → y ≡ t .second → Steps s at 0 (t .opcode) x y (boolByte (a .shortest)) (a .next)
+  unfolding told raise readIn opcodeOf firstOf secondOf shortestOf nextOf
   steps-annotation {a} {t} e is x y =
-      let k : _ ≡ ok (annotation (record { triple = t; next = a .next })) = sym (p .is .answer) ∙ ap readIn e ∙ rw is in
-      record { answer = record { number = rw k; value = rw k }; first-told = rw k x; second-told = rw k y; next-told = rw k }
+      let k : _ ≡ ok (annotation (placed t (a .shortest) (a .next))) = sym (p .is .answer) ∙ ap readIn e ∙ rw is in
+      record { answer = record { number = rw k; value = rw k }; first-told = rw k x; second-told = rw k y; shortest-told = rw k (flag-crosses (a .shortest)); next-told = rw k }
 
-  pub steps-end : {place : ℕ} → r ≡ read.End place → Steps s at 0 0 (pos 0) (pos 0) place
-  unfolding told raise readIn opcodeOf firstOf secondOf nextOf
+  pub steps-end : {place : ℕ} → r ≡ read.End place → Steps s at 0 0 (pos 0) (pos 0) 0 place
+  unfolding told raise readIn opcodeOf firstOf secondOf shortestOf nextOf
   steps-end {place} e =
       let k : _ ≡ ok (end place) = sym (p .is .answer) ∙ ap readIn e in
-      record { answer = record { number = rw k; value = rw k }; first-told = rw k; second-told = rw k; next-told = rw k }
+      record { answer = record { number = rw k; value = rw k }; first-told = rw k; second-told = rw k; shortest-told = rw k; next-told = rw k }
 
-  pub steps-refused : {why : PlacedRefusal} {n v : ℕ} → r ≡ read.Refused why → n ≡ refusalIn (why .refusal) .number → v ≡ refusalIn (why .refusal) .value → Steps s at n v (pos 0) (pos 0) (why .place)
+  pub steps-refused : {why : PlacedRefusal} {n v : ℕ} → r ≡ read.Refused why → n ≡ refusalIn (why .refusal) .number → v ≡ refusalIn (why .refusal) .value → Steps s at n v (pos 0) (pos 0) 0 (why .place)
   unfolding told raise readIn
   steps-refused {why} e n v =
       let k : _ ≡ refused (stopIn why) = sym (p .is .answer) ∙ ap readIn e in
-      record { answer = record { number = rw k n; value = rw k v }; first-told = rw k; second-told = rw k; next-told = rw k }
+      record { answer = record { number = rw k n; value = rw k v }; first-told = rw k; second-told = rw k; shortest-told = rw k; next-told = rw k }
 
 pub ruleset step-cases = (steps-annotation, steps-end, steps-refused)
 

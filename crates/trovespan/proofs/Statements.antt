@@ -34,9 +34,9 @@ single-valued =
       extract = λ f len k limit out a b p q i.
           (same (p .answer .number) (q .answer .number) i, same (p .answer .value) (q .answer .value) i, same (p .after) (q .after) i);
       number = λ s at a b p q i.
-          (same (p .answer .number) (q .answer .number) i, same (p .answer .value) (q .answer .value) i, same (p .next-told) (q .next-told) i);
+          (same (p .answer .number) (q .answer .number) i, same (p .answer .value) (q .answer .value) i, same (p .taken-told) (q .taken-told) i, same (p .shortest-told) (q .shortest-told) i, same (p .next-told) (q .next-told) i);
       step = λ s at a b p q i.
-          (same (p .answer .number) (q .answer .number) i, same (p .answer .value) (q .answer .value) i, same (p .first-told) (q .first-told) i, same (p .second-told) (q .second-told) i, same (p .next-told) (q .next-told) i);
+          (same (p .answer .number) (q .answer .number) i, same (p .answer .value) (q .answer .value) i, same (p .first-told) (q .first-told) i, same (p .second-told) (q .second-told) i, same (p .shortest-told) (q .shortest-told) i, same (p .next-told) (q .next-told) i);
       decode = λ s store a b p q i.
           (same (p .answer .number) (q .answer .number) i, same (p .answer .value) (q .answer .value) i, same (p .place-told) (q .place-told) i, same (p .after) (q .after) i);
       write-annotations = λ list out a b p q i.

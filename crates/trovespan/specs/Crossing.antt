@@ -6,6 +6,7 @@ use Prim.Native.Nat.{ℕ}
 use lib.IntN.{ℤ, pos}
 use Rattle.outcome.specs.Outcome.{Outcome, ok, refused}
 use Rattle.outcome.specs.Refusal as paper
+use Rattle.numbers.specs.Number.{flag}
 use Rattle.annotations.specs.Step.{Stepped, annotation, end}
 use Rattle.extent.specs.declared.limit.Limit.{Limit}
 use Rattle.extent.specs.declared.limit.Limit.the-variants.{None, AtMost}
@@ -37,6 +38,10 @@ firstOf (end place) = pos 0
 unfoldable pub secondOf : Stepped → ℤ
 secondOf (annotation x) = x .triple .second
 secondOf (end place) = pos 0
+
+unfoldable pub shortestOf : Stepped → ℕ
+shortestOf (annotation x) = flag (x .shortest)
+shortestOf (end place) = 0
 
 unfoldable pub nextOf : Stepped → ℕ
 nextOf (annotation x) = x .next

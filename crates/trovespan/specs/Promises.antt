@@ -18,7 +18,7 @@ use Rattle.msf.specs.Extraction.{bytesIn, extraction, lengthIn}
 use Rattle.extent.specs.declared.limit.Limit.{Limit}
 use Rattle.mapping.specs.declared.Mapped.{Mapped}
 use Rattle.numbers.specs.Refusal.{Stop}
-use Rattle.numbers.specs.Number.{numberAt}
+use Rattle.numbers.specs.Number.{flag, numberAt}
 use Rattle.annotations.specs.Step.{Stepped, stepAt}
 use Rattle.decode.specs.Decode.{DecodeStop, decodedEntries, decoding}
 use Rattle.numbers.specs.declared.number.Number.{Number}
@@ -26,7 +26,7 @@ use Rattle.annotation_writer.specs.Writing.{listBytes, writing}
 use Rattle.container_layout.specs.Container.{container}
 use Rattle.container_writer.specs.Writing as container-writer
 use Rattle.container_writer.specs.Writing.{firstBytes}
-use Rattle.trovespan.specs.Crossing.{told, Tells, opcodeOf, firstOf, secondOf, nextOf, placeOr0}
+use Rattle.trovespan.specs.Crossing.{told, Tells, opcodeOf, firstOf, secondOf, shortestOf, nextOf, placeOr0}
 
 -- ---- the container. Where a refusal has nothing to say, the number is 0
 pub record Opens (f : File) (len r value used : ℕ) : Type 0 where
@@ -53,18 +53,21 @@ pub record Extracts (f : File) (len k : ℕ) (limit : Limit) (out : List ℕ) (r
   pub after : out′ ≡ written (extraction f len k limit (length out)) (bytesIn f) out
 
 -- ---- binary annotations: refusals with the place after them
-pub record Numbers (s : List ℕ) (at r value next : ℕ) : Type 0 where
+pub record Numbers (s : List ℕ) (at r value taken shortest next : ℕ) : Type 0 where
   pub answer : Tells (raise (λ (x : Stop). x .refusal) (numberAt s at)) (λ (n : Number). n .value) r value
+  pub taken-told : taken ≡ told (λ (n : Number). n .taken) (λ _. 0) (numberAt s at)
+  pub shortest-told : shortest ≡ told (λ (n : Number). flag (n .shortest)) (λ _. 0) (numberAt s at)
   pub next-told : next ≡ told (λ (n : Number). n .next) (λ (x : Stop). x .place) (numberAt s at)
 
 -- (o is what the step answers)
-pub record StepsOf (o : Outcome Stop Stepped) (r value : ℕ) (first second : ℤ) (next : ℕ) : Type 0 where
+pub record StepsOf (o : Outcome Stop Stepped) (r value : ℕ) (first second : ℤ) (shortest next : ℕ) : Type 0 where
   pub answer : Tells (raise (λ (x : Stop). x .refusal) o) opcodeOf r value
   pub first-told : first ≡ told firstOf (λ (_ : Stop). pos 0) o
   pub second-told : second ≡ told secondOf (λ (_ : Stop). pos 0) o
+  pub shortest-told : shortest ≡ told shortestOf (λ (_ : Stop). 0) o
   pub next-told : next ≡ told nextOf (λ (x : Stop). x .place) o
 
-abbrev pub Steps : List ℕ → ℕ → ℕ → ℕ → ℤ → ℤ → ℕ → Type 0
+abbrev pub Steps : List ℕ → ℕ → ℕ → ℕ → ℤ → ℤ → ℕ → ℕ → Type 0
 Steps s at = StepsOf (stepAt s at)
 
 -- (o is what decoding all answers)

@@ -138,28 +138,43 @@ pub extern "C" fn trovespan_extract(
     }
 }
 
-// `value` is the number, `next` the place after it or after its refusal.
+// `value` is the number, `taken` how many bytes it took, `shortest` 1 if no form of it is shorter, else 0. `next` is
+// the place after it or after its refusal.
 #[no_mangle]
-pub extern "C" fn trovespan_number(bytes: &[u8], at: usize, value: &mut u64, next: &mut u64) -> u32
-    ensures { λ r. ⌜ Numbers (now (bytes .entry)) at r (now (value .exit)) (now (next .exit)) ⌝ }
+pub extern "C" fn trovespan_number(
+    bytes: &[u8],
+    at: usize,
+    value: &mut u64,
+    taken: &mut u64,
+    shortest: &mut u64,
+    next: &mut u64,
+) -> u32
+    ensures { λ r. ⌜
+        Numbers (now (bytes .entry)) at r (now (value .exit)) (now (taken .exit)) (now (shortest .exit))
+        (now (next .exit))
+        ⌝ }
 {
     match uncompress_next(bytes, at) {
         Uncompressed::Value(n) => {
             *value = n.value as u64;
+            *taken = n.taken as u64;
+            *shortest = n.shortest as u64;
             *next = n.next as u64;
             ACCEPTED
         }
         Uncompressed::Refused(why) => {
             let refusal = why.refusal;
             *value = refusal.value();
+            *taken = 0;
+            *shortest = 0;
             *next = why.place as u64;
             refusal.number()
         }
     }
 }
 
-// `value` is the annotation's opcode, 1 to 13, or 0 at the end. `first` and `second` are its operands. `next` is the
-// place after the annotation, the end or the refusal.
+// `value` is the annotation's opcode, 1 to 13, or 0 at the end. `first` and `second` are its operands. `shortest` is 1
+// if all its numbers were shortest, else 0. `next` is the place after the annotation, the end or the refusal.
 #[no_mangle]
 pub extern "C" fn trovespan_step(
     bytes: &[u8],
@@ -167,10 +182,12 @@ pub extern "C" fn trovespan_step(
     value: &mut u64,
     first: &mut i64,
     second: &mut i64,
+    shortest: &mut u64,
     next: &mut u64,
 ) -> u32
     ensures { λ r. ⌜
-        Steps (now (bytes .entry)) at r (now (value .exit)) (now (first .exit)) (now (second .exit)) (now (next .exit))
+        Steps (now (bytes .entry)) at r (now (value .exit)) (now (first .exit)) (now (second .exit))
+        (now (shortest .exit)) (now (next .exit))
         ⌝ }
 {
     match operands_at(bytes, at) {
@@ -181,6 +198,7 @@ pub extern "C" fn trovespan_step(
             *value = t.opcode as u64;
             *first = left;
             *second = right;
+            *shortest = a.shortest as u64;
             *next = a.next as u64;
             ACCEPTED
         }
@@ -188,6 +206,7 @@ pub extern "C" fn trovespan_step(
             *value = 0;
             *first = 0;
             *second = 0;
+            *shortest = 0;
             *next = place as u64;
             ACCEPTED
         }
@@ -196,6 +215,7 @@ pub extern "C" fn trovespan_step(
             *value = refusal.value();
             *first = 0;
             *second = 0;
+            *shortest = 0;
             *next = why.place as u64;
             refusal.number()
         }

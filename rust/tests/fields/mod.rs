@@ -22,8 +22,8 @@ pub fn map_counts(
 /// What a step finds.
 #[derive(Clone, Copy, Debug, PartialEq, Eq)]
 pub enum Found {
-    /// Opcode, first operand, second operand.
-    Annotation(u32, i64, i64),
+    /// Opcode, first operand, second operand, and whether all numbers have their shortest form.
+    Annotation(u32, i64, i64, bool),
     End,
     Refused(Refusal),
 }
@@ -32,7 +32,7 @@ pub enum Found {
 pub fn stepped(bytes: &[u8], at: usize) -> (Found, usize) {
     let (step, next) = step(bytes, at);
     let found = match step {
-        Step::Annotation { opcode, first, second, .. } => Found::Annotation(opcode, first, second),
+        Step::Annotation { opcode, first, second, shortest, .. } => Found::Annotation(opcode, first, second, shortest),
         Step::End => Found::End,
         Step::Refused(why) => Found::Refused(why),
     };

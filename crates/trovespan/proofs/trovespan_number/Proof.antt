@@ -14,6 +14,9 @@ enum-known-n c = search needs
 cast-value : tie.Need-cast-value
 cast-value c = search needs
 
+cast-shortest : tie.Need-cast-shortest
+cast-shortest c = search needs
+
 enum-known-why : tie.Need-enum-known-why
 enum-known-why c = search needs
 
@@ -36,6 +39,7 @@ trovespan-number-spec =
     uncompress-next-requires
     enum-known-n
     cast-value
+    cast-shortest
     enum-known-why
     value-requires
     number-requires

@@ -18,6 +18,9 @@ triple-of-requires c κs = search needs
 cast-value : tie.Need-cast-value
 cast-value c = search needs
 
+cast-shortest : tie.Need-cast-shortest
+cast-shortest c = search needs
+
 enum-known-place : tie.Need-enum-known-place
 enum-known-place c = search needs
 
@@ -47,6 +50,7 @@ trovespan-step-spec =
     enum-known-a
     triple-of-requires
     cast-value
+    cast-shortest
     enum-known-place
     enum-known-why
     value-requires
