@@ -4,7 +4,7 @@ use std::cell::RefCell;
 use std::io::{self, Cursor};
 use std::rc::Rc;
 
-use trovespan::{Step, ENTRIES_EACH};
+use trovespan::{Step, ENTRIES_EACH, RECORD_ENTRIES};
 
 use super::inputs::{
     annotations, in_long_slices, in_single_pages, of_streams, records, streams, LONGEST_STREAM,
@@ -198,7 +198,8 @@ fn figure(stream: &[u8]) -> u64 {
     stream.len() as u64 + bytes.sum::<u64>()
 }
 
-/// Step after step to the end, each used: ours from place to place, pdb by its iterator.
+/// Step after step to the end, each used: ours from place to place, pdb by its iterator. Ours also says of
+/// each whether its numbers are shortest, which pdb does not: that is computed, and not used.
 fn steps(bytes: &'static [u8]) -> Case {
     Case {
         name: "step",
@@ -223,8 +224,8 @@ fn steps(bytes: &'static [u8]) -> Case {
     }
 }
 
-/// An annotation's three numbers.
-fn entries(step: Step) -> Option<[i64; 3]> {
+/// An annotation's three numbers, which both sides have.
+fn entries(step: Step) -> Option<[i64; RECORD_ENTRIES]> {
     match step {
         Step::Annotation {
             opcode,
@@ -236,8 +237,10 @@ fn entries(step: Step) -> Option<[i64; 3]> {
     }
 }
 
-/// All annotations into a lent store. Ours writes nothing before it has judged
-/// all; pdb has no such function, and its side writes each annotation as its iterator comes to it.
+/// All annotations into a lent store, four entries each. Ours writes nothing before it has judged
+/// all; pdb has no such function, and its side writes each annotation as its iterator comes to it. pdb does
+/// not know whether the numbers are shortest. Its side writes the three numbers that it has to the same places
+/// of the same store, and nothing to the fourth entry. So ours does more.
 fn decoding(bytes: &'static [u8]) -> Case {
     Case {
         name: "decode",
@@ -254,7 +257,7 @@ fn written(bytes: &'static [u8], stores: &mut Stores) -> u64 {
     let mut iter = BinaryAnnotations::new(bytes).iter();
     let mut room = stores.entries.chunks_exact_mut(ENTRIES_EACH);
     while let (Ok(Some(annotation)), Some(entries)) = (iter.next(), room.next()) {
-        entries.copy_from_slice(&triple(annotation));
+        entries[..RECORD_ENTRIES].copy_from_slice(&triple(annotation));
         count += 1;
     }
     count

@@ -2,7 +2,7 @@
 //! records. They are the same at each run, and stay in memory until the program ends, since a view for pdb may not borrow from anything that
 //! ends earlier.
 
-use trovespan::ENTRIES_EACH;
+use trovespan::{ENTRIES_EACH, RECORD_ENTRIES};
 
 use crate::container::{need, stream, Container};
 use crate::random::Random;
@@ -92,12 +92,13 @@ pub fn annotations(length: usize) -> &'static [u8] {
     Box::leak(bytes.into_boxed_slice())
 }
 
-/// The records that the annotations decode to.
+/// The records that the annotations decode to, as they are written.
 pub fn records(annotations: &[u8]) -> &'static [i64] {
-    let mut records = vec![0; ENTRIES_EACH * MOST_ANNOTATIONS];
-    let count = trovespan::decode(annotations, &mut records).expect("every annotation is one");
-    records.truncate(ENTRIES_EACH * count);
-    Box::leak(records.into_boxed_slice())
+    let mut entries = vec![0; ENTRIES_EACH * MOST_ANNOTATIONS];
+    let count = trovespan::decode(annotations, &mut entries).expect("every annotation is one");
+    let entries = entries.chunks_exact(ENTRIES_EACH).take(count);
+    let records = entries.flat_map(|entries| &entries[..RECORD_ENTRIES]);
+    Box::leak(records.copied().collect())
 }
 
 fn put_operand(random: &mut Random, bytes: &mut Vec<u8>) {

@@ -107,45 +107,77 @@ static void extract(void) {
     CHECK(trovespan_extract(file, 5400, 0, false, 0, out, 601, &value) == TROVESPAN_FILE_ENDS && value == 0);
 }
 
+static void numbers(void) {
+    static const uint8_t bytes[] = {0x7f, 0x80, 0x7f, 0x80, 0x80, 0xc0, 0, 0x3f, 0xff, 0xc0, 0, 0x40, 0};
+    static const struct {
+        size_t at;
+        uint64_t value, taken, shortest;
+    } wanted[] = {{0, 127, 1, 1}, {1, 127, 2, 0}, {3, 128, 2, 1}, {5, 16383, 4, 0}, {9, 16384, 4, 1}};
+    static const uint8_t wrong[] = {0xe0, 0, 0, 0};
+    uint64_t value, taken, shortest, next;
+    for (size_t i = 0; i < sizeof wanted / sizeof wanted[0]; i++) {
+        value = taken = shortest = next = 77;
+        CHECK(trovespan_number(bytes, sizeof bytes, wanted[i].at, &value, &taken, &shortest, &next) == 0);
+        CHECK(value == wanted[i].value && taken == wanted[i].taken && shortest == wanted[i].shortest);
+        CHECK(next == wanted[i].at + wanted[i].taken);
+    }
+    value = taken = shortest = next = 77;
+    CHECK(trovespan_number(bytes, 2, 1, &value, &taken, &shortest, &next) == TROVESPAN_SHORT_DATA);
+    CHECK(value == 0 && taken == 0 && shortest == 0 && next == 2);
+    value = taken = shortest = next = 77;
+    CHECK(trovespan_number(wrong, 4, 0, &value, &taken, &shortest, &next) == TROVESPAN_INVALID_COMPRESSED_ANNOTATION);
+    CHECK(value == 0 && taken == 0 && shortest == 0 && next == 4);
+}
+
 static void annotations(void) {
     static const uint8_t bytes[] = {3, 5, 11, 0x72, 6, 15, 12, 0x81, 2, 0xc0, 1, 0, 0};
     static const uint8_t wrong[] = {3, 5, 14, 0xe0, 0, 0, 0};
-    uint64_t value = 77, next = 77;
+    uint64_t value = 77, shortest = 77, next = 77;
     int64_t first = 77, second = 77;
-    CHECK(trovespan_number(bytes, sizeof bytes, 7, &value, &next) == 0 && value == 0x102 && next == 9);
-    CHECK(trovespan_number(bytes, 8, 7, &value, &next) == TROVESPAN_SHORT_DATA && value == 0 && next == 8);
-    CHECK(trovespan_number(wrong, sizeof wrong, 3, &value, &next) == TROVESPAN_INVALID_COMPRESSED_ANNOTATION && next == 7);
-    CHECK(trovespan_step(bytes, sizeof bytes, 2, &value, &first, &second, &next) == 0);
-    CHECK(value == 11 && first == 2 && second == -3 && next == 4);
-    CHECK(trovespan_step(bytes, sizeof bytes, 6, &value, &first, &second, &next) == 0);
-    CHECK(value == 12 && first == 0x102 && second == 0x10000 && next == 13);
-    CHECK(trovespan_step(bytes, sizeof bytes, SIZE_MAX, &value, &first, &second, &next) == 0);
-    CHECK(value == 0 && first == 0 && second == 0 && next == 13);
-    CHECK(trovespan_step(wrong, sizeof wrong, 2, &value, &first, &second, &next) == TROVESPAN_UNKNOWN_BINARY_ANNOTATION);
-    CHECK(value == 14 && first == 0 && second == 0 && next == 3);
+    CHECK(trovespan_step(bytes, sizeof bytes, 2, &value, &first, &second, &shortest, &next) == 0);
+    CHECK(value == 11 && first == 2 && second == -3 && shortest == 1 && next == 4);
+    CHECK(trovespan_step(bytes, sizeof bytes, SIZE_MAX, &value, &first, &second, &shortest, &next) == 0);
+    CHECK(value == 0 && first == 0 && second == 0 && shortest == 0 && next == 13);
+    CHECK(trovespan_step(bytes, sizeof bytes, 6, &value, &first, &second, &shortest, &next) == 0);
+    CHECK(value == 12 && first == 0x102 && second == 0x10000 && shortest == 1 && next == 13);
+    CHECK(trovespan_step(wrong, sizeof wrong, 2, &value, &first, &second, &shortest, &next) ==
+          TROVESPAN_UNKNOWN_BINARY_ANNOTATION);
+    CHECK(value == 14 && first == 0 && second == 0 && shortest == 0 && next == 3);
+}
+
+/* Annotations with one number that is not in its shortest form: the opcode, the first operand, the second. */
+static void long_forms(void) {
+    static const uint8_t bytes[3][4] = {{0x80, 12, 5, 7}, {12, 0x80, 5, 7}, {12, 5, 0x80, 7}};
+    uint64_t value = 77, shortest = 77, next = 77;
+    int64_t first = 77, second = 77;
+    for (size_t i = 0; i < 3; i++) {
+        CHECK(trovespan_step(bytes[i], 4, 0, &value, &first, &second, &shortest, &next) == 0);
+        CHECK(value == 12 && first == 5 && second == 7 && shortest == 0 && next == 4);
+    }
 }
 
 static void decode(void) {
-    static const uint8_t bytes[] = {3, 5, 11, 0x72};
+    static const uint8_t bytes[] = {3, 5, 11, 0x80, 0x72};
     static const uint8_t wrong[] = {3, 5, 14};
-    static const int64_t wanted[] = {3, 5, 0, 11, 2, -3};
-    int64_t store[7];
+    static const int64_t wanted[] = {3, 5, 0, 1, 11, 2, -3, 0};
+    int64_t store[9];
     uint64_t value = 77, place = 77;
     memset(store, UNTOUCHED, sizeof store);
-    CHECK(trovespan_decode(wrong, sizeof wrong, store, 7, &value, &place) == TROVESPAN_UNKNOWN_BINARY_ANNOTATION);
+    CHECK(trovespan_decode(wrong, sizeof wrong, store, 9, &value, &place) == TROVESPAN_UNKNOWN_BINARY_ANNOTATION);
     CHECK(value == 14 && place == 3);
-    CHECK(trovespan_decode(bytes, sizeof bytes, store, 5, &value, &place) == TROVESPAN_NO_ROOM && value == 6 && place == 0);
+    CHECK(trovespan_decode(bytes, sizeof bytes, store, 7, &value, &place) == TROVESPAN_NO_ROOM && value == 8 && place == 0);
     CHECK(untouched(store, sizeof store));
-    CHECK(trovespan_decode(bytes, sizeof bytes, store, 7, &value, &place) == 0 && value == 2 && place == 0);
-    CHECK(memcmp(store, wanted, sizeof wanted) == 0 && untouched(store + 6, 8));
+    CHECK(trovespan_decode(bytes, sizeof bytes, store, 9, &value, &place) == 0 && value == 2 && place == 0);
+    CHECK(memcmp(store, wanted, sizeof wanted) == 0 && untouched(store + 8, 8));
 }
 
 static void write_annotations(void) {
     static const int64_t records[] = {3, 5, 0, 11, 2, -3, 6, -7, 0, 12, 0x102, 0x10000};
+    static const int64_t decoded[] = {3, 5, 0, 1, 11, 2, -3, 1, 6, -7, 0, 1, 12, 0x102, 0x10000, 1};
     static const int64_t wrong[] = {3, 5, 0, 3, 5, 1, 14, 0, 0};
     static const uint8_t wanted[] = {3, 5, 11, 0x72, 6, 15, 12, 0x81, 2, 0xc0, 1, 0, 0};
     uint8_t out[14];
-    int64_t store[12];
+    int64_t store[16];
     uint64_t value = 77, place = 77;
     memset(out, UNTOUCHED, sizeof out);
     CHECK(trovespan_write_annotations(wrong, 8, out, 14, &value) == TROVESPAN_RAGGED_LIST && value == 0);
@@ -156,8 +188,8 @@ static void write_annotations(void) {
     CHECK(untouched(out, sizeof out));
     CHECK(trovespan_write_annotations(records, 12, out, 14, &value) == 0 && value == 13);
     CHECK(memcmp(out, wanted, sizeof wanted) == 0 && untouched(out + 13, 1));
-    CHECK(trovespan_decode(out, 13, store, 12, &value, &place) == 0 && value == 4);
-    CHECK(memcmp(store, records, sizeof records) == 0);
+    CHECK(trovespan_decode(out, 13, store, 16, &value, &place) == 0 && value == 4);
+    CHECK(memcmp(store, decoded, sizeof decoded) == 0);
 }
 
 static void write_container(void) {
@@ -194,7 +226,9 @@ int main(void) {
     open_and_count();
     map();
     extract();
+    numbers();
     annotations();
+    long_forms();
     decode();
     write_annotations();
     write_container();

@@ -44,7 +44,10 @@ pub fn answer(d: Digest, q: Question, bytes: &[u8], store: &mut [i64]) -> Digest
 // The number at a place.
 fn number(d: Digest, bytes: &[u8], at: usize) -> Digest {
     match numbers::uncompress_next(bytes, at) {
-        Uncompressed::Value(n) => d.plain(NUMBER).plain(n.value as u64).plain(n.next as u64),
+        Uncompressed::Value(n) => {
+            let read = d.plain(NUMBER).plain(n.value as u64).plain(n.taken as u64);
+            read.plain(flag(n.shortest)).plain(n.next as u64)
+        }
         Uncompressed::Refused(why) => refused(d, NUMBER_REFUSED, why),
     }
 }
@@ -118,7 +121,8 @@ fn with_step(d: Digest, step: Step) -> Digest {
             let annotation = a.annotation;
             let t = annotation.triple();
             let kind = d.plain(ANNOTATION).plain(0).plain(t.opcode as u64);
-            let whole = kind.signed(t.first).signed(t.second).plain(a.next as u64);
+            let triple = kind.signed(t.first).signed(t.second);
+            let whole = triple.plain(flag(a.shortest)).plain(a.next as u64);
             whole.plain(flag(annotation.emits_line_info()))
         }
         Step::End(place) => d.plain(END).plain(place as u64),
@@ -133,9 +137,9 @@ fn is_end(step: Step) -> bool {
     }
 }
 
-// Whether a line record is emitted, as a word.
-fn flag(emits: bool) -> u64 {
-    if emits { 1 } else { 0 }
+// A yes or no as a word.
+fn flag(holds: bool) -> u64 {
+    if holds { 1 } else { 0 }
 }
 
 // All of the bytes decoded, once for each size of the store.

@@ -3,7 +3,7 @@
 
 use std::fmt::Write;
 
-use trovespan::Step;
+use trovespan::{Number, Step, ENTRIES_EACH};
 
 use crate::totals::Totals;
 
@@ -21,10 +21,14 @@ pub fn write(bytes: &[u8], text: &mut String, totals: &mut Totals) -> Result<(),
     while at < bytes.len() {
         let (step, next) = trovespan::step(bytes, at);
         let said = match step {
-            Step::Annotation { opcode, first, second, .. } => {
-                stepped.extend([i64::from(opcode), first, second]);
+            Step::Annotation { opcode, first, second, shortest, .. } => {
+                stepped.extend([i64::from(opcode), first, second, i64::from(shortest)]);
                 totals.opcodes[opcode as usize] += 1;
-                count_widths(bytes, at, next, totals)?;
+                if count_widths(bytes, at, next, totals)? != shortest {
+                    return Err(format!("the forms at {at} of {} are not what the step says", hex(bytes)));
+                }
+                totals.shortest += usize::from(shortest);
+                totals.longer += usize::from(!shortest);
                 state.said(opcode, first, second)
             }
             Step::End => String::new(),
@@ -36,26 +40,42 @@ pub fn write(bytes: &[u8], text: &mut String, totals: &mut Totals) -> Result<(),
     decoded(bytes, &stepped)
 }
 
-/// Checks that the annotation is a row of numbers with nothing before, between or after them.
-fn count_widths(bytes: &[u8], at: usize, next: usize, totals: &mut Totals) -> Result<(), String> {
+/// Checks that the annotation is a row of numbers with nothing before, between or after them. Returns whether all of
+/// them are shortest.
+fn count_widths(bytes: &[u8], at: usize, next: usize, totals: &mut Totals) -> Result<bool, String> {
     let mut place = at;
+    let mut shortest = true;
     while place < next {
         let (number, after) = trovespan::number(bytes, place);
-        number.map_err(|why| format!("a number of the annotations {} is refused: {why:?}", hex(bytes)))?;
-        totals.widths[after - place] += 1;
+        let number = number.map_err(|why| format!("a number of the annotations {} is refused: {why:?}", hex(bytes)))?;
+        if number.taken != after - place || number.shortest != is_shortest(number) {
+            return Err(format!("the number at {place} of {} is read as {number:?}", hex(bytes)));
+        }
+        totals.widths[number.taken] += 1;
+        shortest &= number.shortest;
         place = after;
     }
     if place != next {
         return Err(format!("the annotation at {at} of {} ends within a number", hex(bytes)));
     }
-    Ok(())
+    Ok(shortest)
+}
+
+/// Whether a number takes no more bytes than it needs, by its value and not by what the crate says.
+pub fn is_shortest(number: Number) -> bool {
+    let needed = match number.value {
+        0..=0x7f => 1,
+        0x80..=0x3fff => 2,
+        _ => 4,
+    };
+    number.taken == needed
 }
 
 /// Checks that decoding all gives what the steps gave.
 fn decoded(bytes: &[u8], stepped: &[i64]) -> Result<(), String> {
     let mut store = vec![0; stepped.len()];
     let count = trovespan::decode(bytes, &mut store);
-    if count != Ok(stepped.len() / 3) || store != stepped {
+    if count != Ok(stepped.len() / ENTRIES_EACH) || store != stepped {
         return Err(format!("the annotations {} are decoded as {count:?}, {store:?}", hex(bytes)));
     }
     Ok(())

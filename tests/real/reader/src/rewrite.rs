@@ -1,16 +1,20 @@
 //! The annotations of every site, by `decode` and then by `write_annotations`, in place of the old ones in a copy of
 //! the file.
 
-use trovespan::{Step, ENTRIES_EACH};
+use std::ops::Range;
 
-use crate::annotations::hex;
+use trovespan::{Step, ENTRIES_EACH, RECORD_ENTRIES};
+
+use crate::annotations::{hex, is_shortest};
 use crate::container::Container;
 use crate::sites;
 
 /// The totals over all files.
 #[derive(Default)]
 pub struct Saving {
-    sites: usize,
+    /// The number of sites whose bytes stay as they are, and of the others.
+    unchanged: usize,
+    changed: usize,
     annotations: usize,
     /// The number of bytes that the annotations took, and take now. The end of a site is no annotation.
     before: usize,
@@ -20,7 +24,9 @@ pub struct Saving {
 impl Saving {
     pub fn text(&self) -> String {
         let lines = [
-            ("sites-written", self.sites),
+            ("sites-written", self.unchanged + self.changed),
+            ("sites-unchanged", self.unchanged),
+            ("sites-changed", self.changed),
             ("annotations-written", self.annotations),
             ("bytes-before", self.before),
             ("bytes-after", self.after),
@@ -45,53 +51,76 @@ pub fn shortened(file: &[u8], saving: &mut Saving) -> Result<Vec<u8>, String> {
 
 /// Writes a site's annotations in place of themselves. The bytes that become free are zero, which is the end.
 fn shorten(bytes: &mut [u8], saving: &mut Saving) -> Result<(), String> {
-    let old = hex(bytes);
-    let records = decoded(bytes)?;
-    let before = length(bytes);
+    let old = bytes.to_vec();
+    let entries = decoded(&old)?;
+    let records: Vec<i64> = entries.chunks(ENTRIES_EACH).flat_map(|each| &each[..RECORD_ENTRIES]).copied().collect();
+    let before = length(&old);
     // Refused if they take more bytes than before, since there is no more room.
     let after = trovespan::write_annotations(&records, &mut bytes[..before])
-        .map_err(|why| format!("the annotations {old} are not written again: {why}"))?;
+        .map_err(|why| format!("the annotations {} are not written again: {why}", hex(&old)))?;
     bytes[after..before].fill(0);
+    let wanted: Vec<i64> = records.chunks(RECORD_ENTRIES).flat_map(|record| [record, &[1]].concat()).collect();
     let written = &bytes[..after];
-    if !is_shortest(written) || decoded(written)? != records || decoded(bytes)? != records {
-        return Err(format!("the annotations {old} are written as {}", hex(written)));
+    let sound = all_shortest(written) && decoded(written)? == wanted && decoded(bytes)? == wanted;
+    // The bytes stay as they are exactly if every number has its shortest form and no operand is an odd zero.
+    let same = entries == wanted && !has_odd_zero(&old)?;
+    if !sound || same != (*bytes == old) {
+        return Err(format!("the annotations {} are written as {}", hex(&old), hex(bytes)));
     }
-    saving.sites += 1;
-    saving.annotations += records.len() / ENTRIES_EACH;
+    saving.unchanged += usize::from(same);
+    saving.changed += usize::from(!same);
+    saving.annotations += records.len() / RECORD_ENTRIES;
     saving.before += before;
     saving.after += after;
     Ok(())
 }
 
+/// The entries of the annotations.
 fn decoded(bytes: &[u8]) -> Result<Vec<i64>, String> {
     // An annotation takes at least two bytes.
-    let mut records = vec![0; bytes.len() / 2 * ENTRIES_EACH];
-    let count = trovespan::decode(bytes, &mut records)
+    let mut entries = vec![0; bytes.len() / 2 * ENTRIES_EACH];
+    let count = trovespan::decode(bytes, &mut entries)
         .map_err(|why| format!("the annotations {} are refused: {why}", hex(bytes)))?;
-    records.truncate(count * ENTRIES_EACH);
-    Ok(records)
+    entries.truncate(count * ENTRIES_EACH);
+    Ok(entries)
 }
 
-/// The number of bytes that the annotations take: the place where the step is taken that finds no more.
-fn length(bytes: &[u8]) -> usize {
+/// Where each annotation is.
+fn places(bytes: &[u8]) -> Vec<Range<usize>> {
+    let mut places = Vec::new();
     let mut at = 0;
     while let (Step::Annotation { .. }, next) = trovespan::step(bytes, at) {
+        places.push(at..next);
         at = next;
     }
-    at
+    places
+}
+
+/// The number of bytes that the annotations take.
+fn length(bytes: &[u8]) -> usize {
+    places(bytes).last().map_or(0, |last| last.end)
+}
+
+/// Whether an annotation has a signed operand that is odd and reads as 0, which is written as 0: 1 for the opcodes 6 and
+/// 10, and 16 to 31 for 11, where the lowest four bits are another operand.
+fn has_odd_zero(bytes: &[u8]) -> Result<bool, String> {
+    for place in places(bytes) {
+        let (opcode, after) = trovespan::number(bytes, place.start);
+        let (operand, _) = trovespan::number(bytes, after);
+        let values = opcode.and_then(|opcode| operand.map(|operand| (opcode.value, operand.value)));
+        if matches!(values.map_err(|why| why.to_string())?, (6 | 10, 1) | (11, 16..=31)) {
+            return Ok(true);
+        }
+    }
+    Ok(false)
 }
 
 /// Whether every number takes no more bytes than it needs.
-fn is_shortest(bytes: &[u8]) -> bool {
+fn all_shortest(bytes: &[u8]) -> bool {
     let mut at = 0;
     while at < bytes.len() {
         let (number, next) = trovespan::number(bytes, at);
-        let width = match number {
-            Ok(0..=0x7f) => 1,
-            Ok(0x80..=0x3fff) => 2,
-            _ => 4,
-        };
-        if next - at != width {
+        if !number.map_or(false, is_shortest) {
             return false;
         }
         at = next;

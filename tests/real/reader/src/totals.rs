@@ -13,6 +13,9 @@ pub struct Totals {
     pub sites: usize,
     /// The number of annotations with each opcode.
     pub opcodes: [usize; 14],
+    /// The number of annotations whose numbers all have their shortest form, and of the others.
+    pub shortest: usize,
+    pub longer: usize,
     /// The number of opcodes and operands of each width in bytes.
     pub widths: [usize; 5],
 }
@@ -30,6 +33,8 @@ impl Totals {
             ("modules".to_string(), self.modules),
             ("sites".to_string(), self.sites),
             ("annotations".to_string(), self.opcodes.iter().sum()),
+            ("shortest".to_string(), self.shortest),
+            ("longer".to_string(), self.longer),
         ];
         lines.extend((1..14).map(|opcode| (format!("opcode-{opcode}"), self.opcodes[opcode])));
         lines.extend([1, 2, 4].map(|width| (format!("{width}-byte"), self.widths[width])));

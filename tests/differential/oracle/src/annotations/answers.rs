@@ -16,7 +16,7 @@ const ALL_REFUSED: u64 = 7;
 const NO_ROOM: u64 = 8;
 
 /// How many entries of a store an annotation takes.
-pub const ENTRIES_EACH: usize = 3;
+pub const ENTRIES_EACH: usize = 4;
 
 /// A refusal's number, and its value.
 pub type Refusal = (u64, u64);
@@ -24,7 +24,7 @@ pub type Refusal = (u64, u64);
 /// A library that is asked: pdb or ours.
 pub trait Library {
     /// The number at a place, and the place after it.
-    fn number(bytes: &[u8], at: usize) -> (Result<u32, Refusal>, usize);
+    fn number(bytes: &[u8], at: usize) -> (Result<Number, Refusal>, usize);
 
     /// The steps from a place to the end, each with the place after it, going on after refusals.
     fn steps(bytes: &[u8], at: usize) -> Vec<(Step, usize)>;
@@ -34,12 +34,27 @@ pub trait Library {
     fn decode(bytes: &[u8], store: &mut [i64]) -> Result<usize, (Refusal, Option<usize>)>;
 }
 
+pub struct Number {
+    pub value: u32,
+    /// How many bytes it took.
+    pub taken: usize,
+    /// Whether that is its shortest form.
+    pub shortest: bool,
+}
+
 pub enum Step {
-    /// Opcode, first operand, second operand or 0; and whether it emits a line record, if the library
-    /// has a name for it.
-    Annotation([i64; 3], Option<bool>),
+    Annotation(Annotation),
     End,
     Refused(Refusal),
+}
+
+pub struct Annotation {
+    /// Opcode, first operand, second operand or 0.
+    pub triple: [i64; 3],
+    /// Whether all its numbers have their shortest form.
+    pub shortest: bool,
+    /// Whether it emits a line record, if the library has a name for it.
+    pub emits: Option<bool>,
 }
 
 /// What a part of an answer is about.
@@ -70,7 +85,13 @@ pub type Answer = Vec<(Part, Vec<Word>)>;
 /// The number at a place.
 pub fn number<L: Library>(bytes: &[u8], at: usize, answer: &mut Answer) {
     let words = match L::number(bytes, at) {
-        (Ok(value), place) => vec![Plain(NUMBER), Plain(u64::from(value)), Plain(place as u64)],
+        (Ok(number), place) => vec![
+            Plain(NUMBER),
+            Plain(u64::from(number.value)),
+            Plain(number.taken as u64),
+            Plain(u64::from(number.shortest)),
+            Plain(place as u64),
+        ],
         (Err(refusal), place) => refused(NUMBER_REFUSED, refusal, place),
     };
     answer.push((Part::Number, words));
@@ -80,12 +101,13 @@ pub fn number<L: Library>(bytes: &[u8], at: usize, answer: &mut Answer) {
 pub fn steps<L: Library>(bytes: &[u8], at: usize, answer: &mut Answer) {
     for (step, place) in L::steps(bytes, at) {
         match step {
-            Step::Annotation(triple, emits) => {
+            Step::Annotation(annotation) => {
                 let mut words = vec![Plain(ANNOTATION)];
-                words.extend(triple.iter().map(|&z| Signed(z)));
+                words.extend(annotation.triple.iter().map(|&z| Signed(z)));
+                words.push(Plain(u64::from(annotation.shortest)));
                 words.push(Plain(place as u64));
                 answer.push((Part::Step, words));
-                if let Some(emits) = emits {
+                if let Some(emits) = annotation.emits {
                     answer.push((Part::Emits, vec![Plain(u64::from(emits))]));
                 }
             }

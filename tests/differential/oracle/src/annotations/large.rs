@@ -99,8 +99,8 @@ fn over_32_bits(program: Vec<u8>) -> impl Iterator<Item = Question> {
         Question {
             bytes,
             at,
-            low: 2,
-            high: 3,
+            low: ENTRIES_EACH - 1,
+            high: ENTRIES_EACH,
             sweep: false,
         }
     })

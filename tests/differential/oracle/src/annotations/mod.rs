@@ -3,6 +3,7 @@
 mod answers;
 #[cfg(feature = "ours")]
 mod compare;
+mod forms;
 #[cfg(feature = "ours")]
 mod large;
 mod list;
@@ -14,7 +15,9 @@ mod questions;
 mod rules;
 mod show;
 
-pub use answers::{Refusal, ENTRIES_EACH};
+pub use answers::Refusal;
+#[cfg(feature = "ours")]
+pub use answers::ENTRIES_EACH;
 #[cfg(feature = "ours")]
 pub use compare::compare;
 #[cfg(feature = "ours")]

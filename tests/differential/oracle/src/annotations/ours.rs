@@ -1,13 +1,18 @@
 //! Our library's answers, through the crate `trovespan`.
 
-use super::answers::{Library, Refusal, Step};
+use super::answers::{Annotation, Library, Number, Refusal, Step};
 
 pub struct Ours;
 
 impl Library for Ours {
-    fn number(bytes: &[u8], at: usize) -> (Result<u32, Refusal>, usize) {
-        let (value, place) = trovespan::number(bytes, at);
-        (value.map_err(refusal), place)
+    fn number(bytes: &[u8], at: usize) -> (Result<Number, Refusal>, usize) {
+        let (number, place) = trovespan::number(bytes, at);
+        let number = number.map(|number| Number {
+            value: number.value,
+            taken: number.taken,
+            shortest: number.shortest,
+        });
+        (number.map_err(refusal), place)
     }
 
     fn steps(bytes: &[u8], at: usize) -> Vec<(Step, usize)> {
@@ -37,11 +42,15 @@ fn by_the_rules(step: trovespan::Step) -> Step {
             opcode,
             first,
             second,
+            shortest,
             ..
         } => {
             let named = trovespan::BinaryAnnotation::new(opcode, first, second);
-            let emits = named.map(trovespan::BinaryAnnotation::emits_line_info);
-            Step::Annotation([i64::from(opcode), first, second], emits)
+            Step::Annotation(Annotation {
+                triple: [i64::from(opcode), first, second],
+                shortest,
+                emits: named.map(trovespan::BinaryAnnotation::emits_line_info),
+            })
         }
         trovespan::Step::End => Step::End,
         trovespan::Step::Refused(why) => Step::Refused(refusal(why)),

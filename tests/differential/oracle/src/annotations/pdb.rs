@@ -1,6 +1,8 @@
-//! pdb's answers, by the numbers of the project's rules.
+//! pdb's answers, by the numbers of the project's rules. pdb says what a number is, and the places before and
+//! after it. Whether that is the shortest form is judged here, by the table of forms.
 
-use super::answers::{Library, Refusal, Step, ENTRIES_EACH};
+use super::answers::{Annotation, Library, Number, Refusal, Step, ENTRIES_EACH};
+use super::forms;
 use crate::common::Error;
 use crate::symbol::annotations::{BinaryAnnotation, BinaryAnnotations, BinaryAnnotationsIter};
 use crate::FallibleIterator;
@@ -14,20 +16,22 @@ const NO_ROOM: u64 = 10;
 pub struct Pdb;
 
 impl Library for Pdb {
-    fn number(bytes: &[u8], at: usize) -> (Result<u32, Refusal>, usize) {
+    fn number(bytes: &[u8], at: usize) -> (Result<Number, Refusal>, usize) {
         let mut iter = iter_at(bytes, at);
-        let value = iter.uncompress_next();
-        (value.map_err(|error| refusal(&error)), iter.buffer.pos())
+        let number = next_number(&mut iter);
+        (number.map_err(|error| refusal(&error)), iter.buffer.pos())
     }
 
     fn steps(bytes: &[u8], at: usize) -> Vec<(Step, usize)> {
         let mut iter = iter_at(bytes, at);
         let mut steps = Vec::new();
         loop {
-            let step = match iter.next() {
-                Ok(Some(annotation)) => {
-                    Step::Annotation(triple(annotation), Some(annotation.emits_line_info()))
-                }
+            let step = match next_annotation(bytes, &mut iter) {
+                Ok(Some((annotation, shortest))) => Step::Annotation(Annotation {
+                    triple: triple(annotation),
+                    shortest,
+                    emits: Some(annotation.emits_line_info()),
+                }),
                 Ok(None) => {
                     // The iterator drops its buffer at the end, so the place is the length.
                     steps.push((Step::End, bytes.len()));
@@ -67,8 +71,8 @@ pub fn read_whole(bytes: &[u8]) -> Option<Vec<i64>> {
     let mut iter = iter_at(bytes, 0);
     let mut entries = Vec::new();
     let mut read = 0;
-    while let Some(annotation) = iter.next().ok()? {
-        entries.extend_from_slice(&triple(annotation));
+    while let Some((annotation, shortest)) = next_annotation(bytes, &mut iter).ok()? {
+        entries.extend_from_slice(&entries_of(annotation, shortest));
         read = iter.buffer.pos();
     }
     (read == bytes.len()).then_some(entries)
@@ -81,16 +85,52 @@ pub fn needed(bytes: &[u8]) -> usize {
     needed
 }
 
-/// Passes on each annotation, up to the end or the first refusal.
-fn each(bytes: &[u8], mut take: impl FnMut([i64; 3])) -> Option<(Refusal, usize)> {
+/// Passes on the store entries of each annotation, up to the end or the first refusal.
+fn each(bytes: &[u8], mut take: impl FnMut([i64; ENTRIES_EACH])) -> Option<(Refusal, usize)> {
     let mut iter = iter_at(bytes, 0);
     loop {
-        match iter.next() {
-            Ok(Some(annotation)) => take(triple(annotation)),
+        match next_annotation(bytes, &mut iter) {
+            Ok(Some((annotation, shortest))) => take(entries_of(annotation, shortest)),
             Ok(None) => return None,
             Err(error) => return Some((refusal(&error), iter.buffer.pos())),
         }
     }
+}
+
+/// The next annotation of these bytes, and whether all its numbers have their shortest form.
+fn next_annotation(
+    bytes: &[u8],
+    iter: &mut BinaryAnnotationsIter<'_>,
+) -> Result<Option<(BinaryAnnotation, bool)>, Error> {
+    let from = iter.buffer.pos();
+    let annotation = iter.next()?;
+    Ok(annotation.map(|annotation| {
+        let shortest = all_shortest(bytes, from, iter.buffer.pos());
+        (annotation, shortest)
+    }))
+}
+
+/// Whether all numbers between two places have their shortest form. pdb has found an annotation there.
+fn all_shortest(bytes: &[u8], from: usize, to: usize) -> bool {
+    let mut iter = iter_at(bytes, from);
+    let mut shortest = true;
+    while iter.buffer.pos() < to {
+        let number = next_number(&mut iter).expect("pdb has read this number");
+        shortest &= number.shortest;
+    }
+    shortest
+}
+
+/// The next number.
+fn next_number(iter: &mut BinaryAnnotationsIter<'_>) -> Result<Number, Error> {
+    let from = iter.buffer.pos();
+    let value = iter.uncompress_next()?;
+    let taken = iter.buffer.pos() - from;
+    Ok(Number {
+        value,
+        taken,
+        shortest: forms::is_shortest(value, taken),
+    })
 }
 
 fn iter_at(bytes: &[u8], at: usize) -> BinaryAnnotationsIter<'_> {
@@ -111,7 +151,13 @@ fn refusal(error: &Error) -> Refusal {
     }
 }
 
-/// An annotation's entries in a store: opcode, first operand, second operand or 0.
+/// An annotation's entries in a store: its triple, and 1 if all its numbers have their shortest form, else 0.
+fn entries_of(annotation: BinaryAnnotation, shortest: bool) -> [i64; ENTRIES_EACH] {
+    let [opcode, first, second] = triple(annotation);
+    [opcode, first, second, i64::from(shortest)]
+}
+
+/// Opcode, first operand, second operand or 0.
 pub fn triple(annotation: BinaryAnnotation) -> [i64; 3] {
     use BinaryAnnotation::*;
     match annotation {

@@ -1,5 +1,6 @@
 //! Byte strings to ask about: annotation programs, damaged ones, or random bytes.
 
+use super::forms;
 use crate::random::Random;
 
 /// The ends of each form's range, of the parts of opcode 11's operand, and around them.
@@ -7,9 +8,6 @@ const BOUNDARIES: [u32; 20] = [
     0, 1, 2, 3, 15, 16, 17, 31, 32, 0x7e, 0x7f, 0x80, 0xff, 0x100, 0x3ffe, 0x3fff, 0x4000, 0x10000,
     0x1ffffffe, 0x1fffffff,
 ];
-
-/// The lengths of the forms of a number, and the first number that each cannot hold.
-const FORMS: [(usize, u32); 3] = [(1, 0x80), (2, 0x4000), (4, 0x2000_0000)];
 
 /// A program of at least `length` bytes unless it is cut off: annotations with operands of every
 /// form, then zeros or none.
@@ -95,23 +93,15 @@ fn number(random: &mut Random, value: u32, long: usize, program: &mut Vec<u8>) {
 
 /// Writes a number in its shortest form, or once in `long` times in a longer one.
 fn in_a_form(random: &mut Random, value: u32, long: usize, program: &mut Vec<u8>) {
-    let mut forms = FORMS
-        .iter()
-        .filter(|form| value < form.1)
-        .map(|form| form.0);
-    let shortest = forms.next().expect("every number here is below 2^29");
-    let longer: Vec<usize> = forms.collect();
+    let mut lengths = forms::holding(value);
+    let shortest = lengths.next().expect("every number here is below 2^29");
+    let longer: Vec<usize> = lengths.collect();
     let length = if !longer.is_empty() && random.one_in(long) {
         random.pick(&longer)
     } else {
         shortest
     };
-    let mark: u32 = match length {
-        1 => 0,
-        2 => 0x8000,
-        _ => 0xc000_0000,
-    };
-    program.extend_from_slice(&(value | mark).to_be_bytes()[4 - length..]);
+    program.extend_from_slice(&forms::bytes(value, length));
 }
 
 /// Flips a bit, drops a byte, inserts one, or cuts the end off.

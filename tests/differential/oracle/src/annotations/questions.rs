@@ -3,7 +3,7 @@
 use super::answers::ENTRIES_EACH;
 use super::list::{Question, LARGEST_ROOM, LONGEST};
 use super::pdb::needed;
-use super::{programs, rules};
+use super::{forms, programs, rules};
 use crate::random::Random;
 
 /// The two byte strings that pdb's own test decodes.
@@ -40,6 +40,9 @@ const BOUNDARY: [u8; 14] = [
     0x00, 0x01, 0x06, 0x0b, 0x0c, 0x0d, 0x0e, 0x7f, 0x80, 0xbf, 0xc0, 0xdf, 0xe0, 0xff,
 ];
 
+/// Operands at the ends of each form's range.
+const OPERANDS: [u32; 7] = [0, 1, 0x7f, 0x80, 0x3fff, 0x4000, 0x1fff_ffff];
+
 /// One entry more than two annotations take: four bytes hold no more.
 const SMALL_ROOMS: usize = 2 * ENTRIES_EACH + 1;
 
@@ -56,6 +59,7 @@ pub fn fixed() -> Vec<Question> {
     ask_short(&mut questions);
     ask_swept(&boundary_strings(2), &[0, 1], &mut questions);
     ask_swept(&boundary_strings(3), &[0], &mut questions);
+    ask_forms(&mut questions);
     let mut random = Random::new(FIXED_SEED);
     for _ in 0..FIXED_PROGRAMS {
         let bytes = short(&mut random);
@@ -131,14 +135,42 @@ fn ask_swept(prefixes: &[Vec<u8>], places: &[usize], questions: &mut Vec<Questio
 
 /// The strings of `length` boundary bytes.
 fn boundary_strings(length: usize) -> Vec<Vec<u8>> {
-    let mut strings = vec![Vec::new()];
-    for _ in 0..length {
-        strings = strings
-            .iter()
-            .flat_map(|s: &Vec<u8>| BOUNDARY.iter().map(move |&b| [s.as_slice(), &[b]].concat()))
-            .collect();
+    let bytes: Vec<Vec<u8>> = BOUNDARY.iter().map(|&b| vec![b]).collect();
+    (0..length).fold(vec![Vec::new()], |strings, _| followed(&strings, &bytes))
+}
+
+/// Each front followed by each back.
+fn followed(fronts: &[Vec<u8>], backs: &[Vec<u8>]) -> Vec<Vec<u8>> {
+    fronts
+        .iter()
+        .flat_map(|front| {
+            backs
+                .iter()
+                .map(move |back| [front.as_slice(), back].concat())
+        })
+        .collect()
+}
+
+/// Each operand alone, and each annotation with these operands, each number in every form that holds it. So
+/// a longer form stands in every position, among shortest and longer ones.
+fn ask_forms(questions: &mut Vec<Question>) {
+    let operands = in_every_form(&OPERANDS);
+    for operand in &operands {
+        questions.push(around_needed(operand.clone(), 0));
     }
-    strings
+    for opcode in 1..=13 {
+        let mut annotations = followed(&in_every_form(&[opcode]), &operands);
+        if opcode == 12 {
+            annotations = followed(&annotations, &operands);
+        }
+        questions.extend(annotations.into_iter().map(|bytes| around_needed(bytes, 0)));
+    }
+}
+
+/// The numbers, each in every form that holds it.
+fn in_every_form(numbers: &[u32]) -> Vec<Vec<u8>> {
+    let each = |&n: &u32| forms::holding(n).map(move |length| forms::bytes(n, length));
+    numbers.iter().flat_map(each).collect()
 }
 
 /// Strings of the largest length: as many annotations as possible, and none.

@@ -2,12 +2,13 @@
 //!
 //! A question asks for the number and the steps at its place, and decodes the bytes with each room of
 //! the row, so one question is enough for a row that names several of these. R1 to R9, R14, R15 and
-//! R19 to R45 are about containers, R60 about reads (`buffer/rules.rs`).
+//! R19 to R45 are about containers, R60 about reads (`buffer/rules.rs`), R61 to R70 about listings, R71 to
+//! R80 about writing annotations (`writer/rules.rs`), R81 to R92 about writing containers (`pack/rules.rs`).
 
 use super::list::Question;
 
 /// No row names a larger room.
-const LARGEST_NAMED_ROOM: usize = 6;
+const LARGEST_NAMED_ROOM: usize = 8;
 
 /// The questions of all rows, in the table's order.
 pub fn questions() -> Vec<Question> {
@@ -17,6 +18,7 @@ pub fn questions() -> Vec<Question> {
         annotations(),
         steps(),
         decoding(),
+        how_long(),
     ]
     .concat()
 }
@@ -126,6 +128,34 @@ fn decoding() -> Vec<Question> {
         // R59
         start(&[0x01, 0x01, 0x01, 0x01]),
         start(&[0x01, 0x01, 0x01]),
+    ]
+}
+
+fn how_long() -> Vec<Question> {
+    vec![
+        // R93
+        start(&[0x7f]),
+        start(&[0x80, 0x7f]),
+        start(&[0xc0, 0x00, 0x00, 0x7f]),
+        at(1, &[0x03, 0x80, 0x05]),
+        // R94, which also names the first three of R93
+        start(&[0x80, 0x80]),
+        start(&[0xbf, 0xff]),
+        start(&[0xc0, 0x00, 0x40, 0x00]),
+        start(&[0xc0, 0x00, 0x00, 0x80]),
+        start(&[0xc0, 0x00, 0x3f, 0xff]),
+        // R95. The reader of R97 is asked for every step too.
+        start(&[0x03, 0x05]),
+        start(&[0x80, 0x03, 0x05]),
+        start(&[0xc0, 0x00, 0x00, 0x03, 0x05]),
+        // R96. R100 names the first.
+        start(&[0x03, 0x80, 0x05]),
+        start(&[0x0c, 0x03, 0x07]),
+        start(&[0x0c, 0x80, 0x03, 0x07]),
+        start(&[0x0c, 0x03, 0x80, 0x07]),
+        start(&[0x06, 0x01]),
+        // R98, R99. R99 also names the first of R95.
+        start(&[0x03, 0x80, 0x05, 0x03, 0x05]),
     ]
 }
 

@@ -1,13 +1,13 @@
-//! Our answers about writing beside the reckoned ones, and our bytes as pdb reads them.
+//! Our answers about writing beside the reckoned ones, and our bytes as pdb and ours read them.
 
 use std::fmt;
 
 use super::answers::Outcome;
-use super::list::Question;
-use super::ours::Ours;
-use super::reckoning::Reckoning;
+use super::list::{Question, RECORD_ENTRIES};
+use super::ours::{decode, Ours};
+use super::reckoning::{decoded, Reckoning};
 use super::show::{asked, numbers};
-use crate::annotations::{read_whole, ENTRIES_EACH};
+use crate::annotations::read_whole;
 use crate::compare::Comparison;
 use crate::digest::Word::{self, Signed};
 
@@ -17,22 +17,26 @@ enum Part {
     /// Writing into a store of that many bytes, and the whole store after it.
     Room(usize),
     /// What pdb reads in the bytes that were written.
-    Read,
+    ReadByPdb,
+    /// What our decoder reads in them.
+    ReadByOurs,
 }
 
 impl fmt::Display for Part {
     fn fmt(&self, f: &mut fmt::Formatter<'_>) -> fmt::Result {
         match self {
             Part::Room(room) => write!(f, "room {}", room),
-            Part::Read => write!(f, "read by pdb"),
+            Part::ReadByPdb => write!(f, "read by pdb"),
+            Part::ReadByOurs => write!(f, "read by ours"),
         }
     }
 }
 
-/// Counts the annotations of the lists that ours wrote and pdb read.
+/// Counts the annotations of the lists that ours wrote, and pdb and ours read.
 pub fn compare(questions: impl Iterator<Item = Question>, comparison: &mut Comparison) {
     for (n, question) in questions.enumerate() {
         let list = &question.list;
+        let count = list.len() / RECORD_ENTRIES;
         let (mut ours, mut wanted) = (Vec::new(), Vec::new());
         let mut written = 0;
         for room in question.low..=question.high {
@@ -41,9 +45,12 @@ pub fn compare(questions: impl Iterator<Item = Question>, comparison: &mut Compa
             ours.push((Part::Room(room), our.words()));
             wanted.push((Part::Room(room), reckoned.words()));
             if reckoned.result.is_ok() {
-                ours.push((Part::Read, entries(&read(&our))));
-                wanted.push((Part::Read, entries(list)));
-                written = list.len() / ENTRIES_EACH;
+                let bytes = front(&our);
+                ours.push((Part::ReadByPdb, entries(read_whole(bytes))));
+                ours.push((Part::ReadByOurs, entries(decode(bytes, count))));
+                wanted.push((Part::ReadByPdb, entries(Some(decoded(list)))));
+                wanted.push((Part::ReadByOurs, entries(Some(decoded(list)))));
+                written = count;
             }
         }
         comparison.check(n, ours, wanted, || {
@@ -53,15 +60,13 @@ pub fn compare(questions: impl Iterator<Item = Question>, comparison: &mut Compa
     }
 }
 
-/// The list that pdb reads in the bytes that were written, empty if it cannot read all of them.
-fn read(outcome: &Outcome) -> Vec<i64> {
-    let written = outcome
-        .result
-        .ok()
-        .and_then(|length| outcome.store.get(..length));
-    written.and_then(read_whole).unwrap_or_default()
+/// The bytes that were written, empty if the store has not so many.
+fn front(outcome: &Outcome) -> &[u8] {
+    let length = outcome.result.unwrap_or(0);
+    outcome.store.get(..length).unwrap_or_default()
 }
 
-fn entries(list: &[i64]) -> Vec<Word> {
-    list.iter().map(|&z| Signed(z)).collect()
+/// The store entries that were read, empty if not all bytes could be.
+fn entries(read: Option<Vec<i64>>) -> Vec<Word> {
+    read.unwrap_or_default().into_iter().map(Signed).collect()
 }

@@ -1,10 +1,9 @@
 //! Lists too long for a list of questions, whose indices and lengths take more than 16 and 24 bits. They
 //! are asked about through the crate alone.
 
-use super::list::Question;
+use super::list::{Question, RECORD_ENTRIES};
 use super::lists;
 use super::questions::around_needed;
-use crate::annotations::ENTRIES_EACH;
 use crate::random::Random;
 
 const SEED: u64 = 0x6c61_7277;
@@ -14,14 +13,14 @@ const BITS_17: usize = 1 << 16;
 const BITS_25: usize = 1 << 24;
 
 /// The record with the most bytes.
-const LONGEST_RECORD: [i64; ENTRIES_EACH] = [12, 536_870_911, 16_384];
+const LONGEST_RECORD: [i64; RECORD_ENTRIES] = [12, 536_870_911, 16_384];
 const LONGEST_BYTES: usize = 9;
 
 pub fn large() -> impl Iterator<Item = Question> {
     let sound = lists::sound(&mut Random::new(SEED), BITS_17 + 5);
     let ragged = sound[..sound.len() - 1].to_vec();
     let mut bad = sound.clone();
-    bad[ENTRIES_EACH * (BITS_17 + 1)] = 0;
+    bad[RECORD_ENTRIES * (BITS_17 + 1)] = 0;
     let over_24_bits = LONGEST_RECORD.repeat(BITS_25 / LONGEST_BYTES + 1);
     vec![
         in_no_room(sound.clone()),

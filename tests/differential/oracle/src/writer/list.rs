@@ -8,9 +8,11 @@ use std::io::{self, Write};
 
 use super::answers::Outcome;
 use super::reckoning::Reckoning;
-use crate::annotations::ENTRIES_EACH;
 use crate::digest::Digest;
 use crate::records::{number, Layout};
+
+/// How many numbers of a list an annotation takes. (In the store of a decoder it takes one more.)
+pub const RECORD_ENTRIES: usize = 3;
 
 /// The most annotations that a list has.
 pub const LONGEST: usize = 512;
@@ -51,7 +53,7 @@ impl Question {
     }
 
     fn record(&self) -> Vec<u8> {
-        assert!(self.list.len() <= LONGEST * ENTRIES_EACH);
+        assert!(self.list.len() <= LONGEST * RECORD_ENTRIES);
         assert!(self.low <= self.high && self.high <= LARGEST_ROOM);
         let Digest { a, b } = self.digest();
         let mut record = Vec::with_capacity(LAYOUT.header + WIDTH * self.list.len());

@@ -1,10 +1,9 @@
 //! The questions of the fixed list, and of a live list of any seed and length.
 
-use super::list::{Question, LONGEST};
+use super::list::{Question, LONGEST, RECORD_ENTRIES};
 use super::lists::{self, EDGES, NO_OPCODES};
 use super::reckoning::sound_front;
 use super::rules;
-use crate::annotations::ENTRIES_EACH;
 use crate::random::Random;
 
 /// The opcodes whose second number need not be 0.
@@ -169,6 +168,6 @@ fn long(random: &mut Random) -> Vec<i64> {
     if random.one_in(2) {
         list = lists::damaged(random, &list);
     }
-    list.truncate(LONGEST * ENTRIES_EACH);
+    list.truncate(LONGEST * RECORD_ENTRIES);
     list
 }

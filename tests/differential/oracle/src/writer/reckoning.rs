@@ -1,10 +1,12 @@
-//! What a writer must answer, reckoned from the text of request 2026-01. pdb has no writer to be asked,
-//! but it has a reader: it must read the bytes of each accepted list as that list, to the last byte.
+//! What a writer must answer, reckoned from the text of requests 2026-01 and 2026-06. pdb has no writer to be
+//! asked, but it has a reader: it must read the bytes of each accepted list as that list, to the last byte, and
+//! every number must have its shortest form.
 
 use std::ops::RangeInclusive;
 
 use super::answers::Writer;
-use crate::annotations::{read_whole, Refusal, ENTRIES_EACH};
+use super::list::RECORD_ENTRIES;
+use crate::annotations::{read_whole, Refusal};
 
 const NO_ROOM: u64 = 10;
 const BAD_RECORD: u64 = 20;
@@ -34,24 +36,31 @@ impl Writer for Reckoning {
 
 /// The bytes of a list, or its refusal. Stops unless pdb reads the bytes as that list.
 fn bytes(list: &[i64]) -> Result<Vec<u8>, Refusal> {
-    if !list.chunks_exact(ENTRIES_EACH).remainder().is_empty() {
+    if !list.chunks_exact(RECORD_ENTRIES).remainder().is_empty() {
         return Err((RAGGED_LIST, 0));
     }
     let (bytes, sound) = sound_front(list);
-    if sound < list.len() / ENTRIES_EACH {
+    if sound < list.len() / RECORD_ENTRIES {
         return Err((BAD_RECORD, sound as u64));
     }
-    if read_whole(&bytes).as_deref() != Some(list) {
+    if read_whole(&bytes) != Some(decoded(list)) {
         crate::stop(&format!("pdb does not read {:02x?} as {:?}", bytes, list));
     }
     Ok(bytes)
+}
+
+/// What decoding the bytes of a list gives: its records, each with a fourth entry 1.
+pub fn decoded(list: &[i64]) -> Vec<i64> {
+    list.chunks(RECORD_ENTRIES)
+        .flat_map(|record| [record, &[1]].concat())
+        .collect()
 }
 
 /// The bytes of the records before the first bad one, and how many records that are.
 pub fn sound_front(list: &[i64]) -> (Vec<u8>, usize) {
     let mut bytes = Vec::new();
     let mut sound = 0;
-    for record in list.chunks_exact(ENTRIES_EACH) {
+    for record in list.chunks_exact(RECORD_ENTRIES) {
         match numbers(record[0], record[1], record[2]) {
             None => break,
             Some(numbers) => bytes.extend(numbers.into_iter().flat_map(shortest)),

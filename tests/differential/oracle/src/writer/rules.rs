@@ -1,5 +1,5 @@
 //! The rows of docs/RULES.md on request 2026-01, R71 to R80, each with the smallest lists that tell it from its
-//! neighbour.
+//! neighbour; and R100 on request 2026-06, whose lists are among them.
 
 use super::list::Question;
 
@@ -12,7 +12,7 @@ pub fn questions() -> Vec<Question> {
 
 fn bytes() -> Vec<Question> {
     let mut questions = vec![
-        // R71: the empty list is accepted, and nothing closes a list.
+        // R71: the empty list is accepted, and nothing closes a list. R100 names the second.
         ask(&[]),
         ask(&[3, 5, 0]),
         // R72: the shortest form of each number.
@@ -75,7 +75,7 @@ fn ranges() -> Vec<Question> {
 
 fn order() -> Vec<Question> {
     vec![
-        // R78: 21 comes first,
+        // R78: 21 comes first (R100 names the third),
         ask(&[3]),
         ask(&[3, 5]),
         ask(&[14, 5, 0, 3]),

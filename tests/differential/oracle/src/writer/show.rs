@@ -1,7 +1,6 @@
 //! A record and the reckoned answers as text, to look into a difference.
 
-use super::list::{self, Question, LONGEST};
-use crate::annotations::ENTRIES_EACH;
+use super::list::{self, Question, LONGEST, RECORD_ENTRIES};
 use crate::digest::text as words;
 
 pub fn record(list: &[u8], n: usize) -> String {
@@ -32,7 +31,7 @@ pub fn asked(question: &Question) -> String {
 
 /// The list, at most as much of it as a question of a list has: a semicolon after each annotation.
 pub fn numbers(list: &[i64]) -> String {
-    let shown = list.chunks(ENTRIES_EACH).take(LONGEST);
+    let shown = list.chunks(RECORD_ENTRIES).take(LONGEST);
     let records: Vec<String> = shown
         .map(|record| {
             let numbers: Vec<String> = record.iter().map(i64::to_string).collect();
