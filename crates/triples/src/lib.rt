@@ -1,5 +1,5 @@
-// The three numbers that a store holds of an annotation: opcode, first, second or 0. They are made at once, by the kind
-// of operand, with no variant in between. Each reading of an operand is computed and one is picked: the compiler makes
+// The three numbers that say an annotation: opcode, first, second or 0. They are made at once, by the kind of
+// operand, with no variant in between. Each reading of an operand is computed and one is picked: the compiler makes
 // no branch of that, and no processor can foresee the opcode.
 use annotations::Triple;
 use annotations::decode_signed_operand;
