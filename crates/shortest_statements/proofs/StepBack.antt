@@ -1,4 +1,4 @@
--- A step that answered an annotation: the numbers that it read, and the bytes in which they stand.
+-- A step that answered an annotation: the bytes in which its numbers stand, and that its record can be written.
 use mathlib.Core.Path.{_≡_, refl, sym, _∙_}
 use mathlib.Core.Bool.{Bool, true, false, _&&_}
 use mathlib.Core.List.{List, _++_, append-assoc}
