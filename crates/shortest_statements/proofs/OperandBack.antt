@@ -1,7 +1,7 @@
 -- The operands of an annotation that was read: when they are what is written for them again, and that they can be
 -- written.
 use mathlib.Core.Path.{_≡_, refl, sym, _∙_}
-use mathlib.Core.Bool.{Bool, true, false, cond}
+use mathlib.Core.Bool.{Bool, true, false, cond, true≢false}
 use Prim.Native.Nat.{ℕ, zero, suc, _/_, _%_, _^_, _≤_, _<_}
 use native.Mathlib.Omega.{arith}
 use borrow.Author.Tests.{eqb-true, le-leb}
@@ -16,6 +16,11 @@ use Rattle.annotation_records.specs.declared.record.Record.{Record}
 use Rattle.annotation_writer_statements.proofs.AgainLaws.{signed-again, packed-again, again, plain-is}
 use Rattle.shortest_statements.specs.Rewriting.{oddZero}
 
+-- a choice that is not taken keeps v
+kept : (b : Bool) (x v : ℕ) → b ≡ false → cond b x v ≡ v
+kept true x v e = absurd (true≢false e)
+kept false x v e = refl
+
 kept-only : (b : Bool) {x v : ℕ} → (b ≡ true → x < v) → cond b x v ≡ v → b ≡ false
 kept-only true h e = absurd (omega (arith, h refl))
 kept-only false h e = refl
@@ -26,8 +31,8 @@ module _ (op v : ℕ) where
   unfolding again oddZero
   again-is =
       let P : Bool → ℕ → Type 0 = λ odd n. odd ≡ false → n ≡ v in
-      by-tests P (isSigned op) (λ _ e. signed-again v ∙ rw e)
-      (λ _. by-tests P (eqb op 11) (λ _ e. packed-again v ∙ rw e) (λ _ _. refl))
+      by-tests P (isSigned op) (λ _ e. signed-again v ∙ kept (eqb v 1) 0 v e)
+      (λ _. by-tests P (eqb op 11) (λ _ e. packed-again v ∙ kept (eqb (v / 16) 1) (v % 16) v e) (λ _ _. refl))
 
   pub again-only : again op v ≡ v → oddZero op v ≡ false
   unfolding again oddZero
