@@ -1,0 +1,167 @@
+// What one annotation does to the state. A record is handed out when the next one is emitted: until then its length may
+// be set.
+use crate::state::Length;
+use crate::state::Line;
+use crate::state::MaybeLine;
+use crate::state::Position;
+use crate::state::State;
+use crate::sum::Sum;
+use crate::sum::advanced;
+use annotations::BinaryAnnotation;
+use annotations::wide;
+ghost use mathlib.Core.Path.{_≡_};
+ghost use Prim.Native.Nat.{_+_, _<_, _^_};
+ghost use Rattle.annotations.specs.Annotation.{tripleIn};
+ghost use Rattle.line_state.specs.State.{offsetOf, withCode};
+ghost use Rattle.line_state.specs.Turn.{after, emission, lengthening, advancingLine, advancingEnd, emissionOnLine, turning};
+ghost use Rattle.line_state.specs.Inner.{closing, turnedIn};
+ghost use Rattle.line_state.specs.declared.state.MaybeLine.the-variants as maybe;
+
+// The largest offset of a record.
+const LARGEST_OFFSET: u64 = 0xffff_ffff;
+
+// The next state, and the record that was closed, if one was.
+pub struct After {
+    pub state: State,
+    pub closed: MaybeLine,
+}
+
+pub enum Turned {
+    On(After),
+    // 25.
+    Bad,
+}
+
+// Takes one annotation. The opcodes are in order.
+pub fn turn(s: State, a: BinaryAnnotation) -> Turned
+    ensures { λ r. ⌜ turnedIn r ≡ turning s (tripleIn a) ⌝ }
+{
+    let at = s.at;
+    let last = s.last;
+    match a {
+        BinaryAnnotation::CodeOffset(v) => on(at.with_code(v), last),
+        BinaryAnnotation::ChangeCodeOffsetBase(v) => on(at.with_base(v), last),
+        BinaryAnnotation::ChangeCodeOffset(v) => emit(last, at, v, Length::None),
+        BinaryAnnotation::ChangeCodeLength(v) => set_length(at, last, v),
+        BinaryAnnotation::ChangeFile(f) => on(at.with_file(f.0), last),
+        BinaryAnnotation::ChangeLineOffset(z) => advance_line(at, last, z),
+        BinaryAnnotation::ChangeLineEndDelta(v) => on(at.with_count(v), last),
+        BinaryAnnotation::ChangeRangeKind(v) => on(at.with_kind(v), last),
+        BinaryAnnotation::ChangeColumnStart(v) => on(at.with_start(v), last),
+        BinaryAnnotation::ChangeColumnEndDelta(z) => advance_end(at, last, z),
+        BinaryAnnotation::ChangeCodeOffsetAndLineOffset(v, z) => emit_on_line(last, at, v, z),
+        BinaryAnnotation::ChangeCodeLengthAndCodeOffset(v, w) => {
+            emit(last, at, w, Length::Bytes(v))
+        }
+        BinaryAnnotation::ChangeColumnEnd(v) => on(at.with_end(wide(v)), last),
+    }
+}
+
+// Goes on from a position. No record is closed.
+fn on(at: Position, last: MaybeLine) -> Turned
+    ensures { λ r. ⌜ turnedIn r ≡ after at last maybe.None ⌝ }
+{
+    Turned::On(After {
+        state: State { at, last },
+        closed: MaybeLine::None,
+    })
+}
+
+fn advance_line(at: Position, last: MaybeLine, by: i32) -> Turned
+    ensures { λ r. ⌜ turnedIn r ≡ advancingLine at last by ⌝ }
+{
+    let Sum::Is(line) = advanced(at.line, by) else {
+        return Turned::Bad;
+    };
+    on(at.with_line(line), last)
+}
+
+fn advance_end(at: Position, last: MaybeLine, by: i32) -> Turned
+    ensures { λ r. ⌜ turnedIn r ≡ advancingEnd at last by ⌝ }
+{
+    let Sum::Is(end) = advanced(at.end, by) else {
+        return Turned::Bad;
+    };
+    on(at.with_end(end), last)
+}
+
+// Sets the length of the record that was emitted last. The code offset stays.
+fn set_length(at: Position, last: MaybeLine, length: u32) -> Turned
+    ensures { λ r. ⌜ turnedIn r ≡ lengthening at last length ⌝ }
+{
+    let MaybeLine::Some(line) = last else {
+        return Turned::Bad;
+    };
+    let from = line.at;
+    on(
+        at,
+        MaybeLine::Some(Line {
+            at: from,
+            length: Length::Bytes(length),
+        }),
+    )
+}
+
+fn emit_on_line(last: MaybeLine, at: Position, by: u32, lines: i32) -> Turned
+    ensures { λ r. ⌜ turnedIn r ≡ emissionOnLine last at by lines ⌝ }
+{
+    let Sum::Is(line) = advanced(at.line, lines) else {
+        return Turned::Bad;
+    };
+    emit(last, at.with_line(line), by, Length::None)
+}
+
+// Advances the code offset and emits a record there, with a length of its own or none.
+fn emit(last: MaybeLine, at: Position, by: u32, own: Length) -> Turned
+    ensures { λ r. ⌜ turnedIn r ≡ emission last (withCode at (at .code + by)) own ⌝ }
+{
+    let code = at.code as u64 + by as u64;
+    let offset = at.base as u64 + code;
+    if LARGEST_OFFSET < offset {
+        return Turned::Bad;
+    }
+    let here = at.with_code(code as u32);
+    let line = Line {
+        at: here,
+        length: own,
+    };
+    let state = State {
+        at: here,
+        last: MaybeLine::Some(line),
+    };
+    close(last, state, offset as u32)
+}
+
+// Closes the last record where the next one begins, at an offset. If it has no length yet, that is the difference of
+// the offsets.
+fn close(last: MaybeLine, state: State, offset: u32) -> Turned
+    ensures { λ r. ⌜ turnedIn r ≡ closing last state offset ⌝ }
+{
+    let MaybeLine::Some(line) = last else {
+        return Turned::On(After {
+            state,
+            closed: MaybeLine::None,
+        });
+    };
+    let length = line.length;
+    let Length::None = length else {
+        return Turned::On(After {
+            state,
+            closed: MaybeLine::Some(line),
+        });
+    };
+    let at = line.at;
+    let from = at.offset();
+    let to = offset as u64;
+    if to < from {
+        return Turned::Bad;
+    }
+    let between = to - from;
+    Turned::On(After {
+        state,
+        closed: MaybeLine::Some(Line {
+            at,
+            length: Length::Bytes(between as u32),
+        }),
+    })
+}
