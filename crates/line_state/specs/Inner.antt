@@ -11,11 +11,11 @@ use Rattle.line_state.specs.declared.turns.After.{After}
 use Rattle.line_state.specs.declared.turns.Turned.{Turned}
 use Rattle.line_state.specs.declared.turns.Turned.the-variants as turned
 
-unfoldable pub sumIn : Sum → OrBad ℤ
+abbrev pub sumIn : Sum → OrBad ℤ
 sumIn (sum.Is z) = ok z
 sumIn sum.Outside = refused tt
 
-unfoldable pub turnedIn : Turned → OrBad After
+abbrev pub turnedIn : Turned → OrBad After
 turnedIn (turned.On a) = ok a
 turnedIn turned.Bad = refused tt
 

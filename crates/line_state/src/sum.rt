@@ -1,5 +1,4 @@
 // A sum of signed numbers that may leave 64 bits. Nothing wraps: a sum that does not fit is said to be outside.
-use annotations::long;
 ghost use mathlib.Core.Path.{_≡_};
 ghost use Rattle.line_state.specs.Turn.{summed};
 ghost use Rattle.line_state.specs.Inner.{sumIn};
@@ -14,10 +13,9 @@ pub(crate) enum Sum {
 }
 
 // A number advanced by an operand, if that fits 64 bits.
-pub(crate) fn advanced(z: i64, by: i32) -> Sum
+pub(crate) fn advanced(z: i64, by: i64) -> Sum
     ensures { λ r. ⌜ sumIn r ≡ summed z by ⌝ }
 {
-    let by = long(by);
     if by < 0 {
         if z < LEAST - by {
             return Sum::Outside;

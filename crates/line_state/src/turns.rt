@@ -8,6 +8,7 @@ use crate::state::State;
 use crate::sum::Sum;
 use crate::sum::advanced;
 use annotations::BinaryAnnotation;
+use annotations::long;
 use annotations::wide;
 ghost use mathlib.Core.Path.{_≡_};
 ghost use Prim.Native.Nat.{_+_, _<_, _^_};
@@ -70,7 +71,7 @@ fn on(at: Position, last: MaybeLine) -> Turned
 fn advance_line(at: Position, last: MaybeLine, by: i32) -> Turned
     ensures { λ r. ⌜ turnedIn r ≡ advancingLine at last by ⌝ }
 {
-    let Sum::Is(line) = advanced(at.line, by) else {
+    let Sum::Is(line) = advanced(at.line, long(by)) else {
         return Turned::Bad;
     };
     on(at.with_line(line), last)
@@ -79,7 +80,7 @@ fn advance_line(at: Position, last: MaybeLine, by: i32) -> Turned
 fn advance_end(at: Position, last: MaybeLine, by: i32) -> Turned
     ensures { λ r. ⌜ turnedIn r ≡ advancingEnd at last by ⌝ }
 {
-    let Sum::Is(end) = advanced(at.end, by) else {
+    let Sum::Is(end) = advanced(at.end, long(by)) else {
         return Turned::Bad;
     };
     on(at.with_end(end), last)
@@ -105,7 +106,7 @@ fn set_length(at: Position, last: MaybeLine, length: u32) -> Turned
 fn emit_on_line(last: MaybeLine, at: Position, by: u32, lines: i32) -> Turned
     ensures { λ r. ⌜ turnedIn r ≡ emissionOnLine last at by lines ⌝ }
 {
-    let Sum::Is(line) = advanced(at.line, lines) else {
+    let Sum::Is(line) = advanced(at.line, long(lines)) else {
         return Turned::Bad;
     };
     emit(last, at.with_line(line), by, Length::None)

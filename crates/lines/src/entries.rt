@@ -3,23 +3,39 @@ use annotations::wide;
 use line_state::Length;
 use line_state::Line;
 use line_state::MaybeLine;
+ghost use mathlib.Core.Path.{_≡_};
+ghost use Prim.Native.Nat.{_+_, _*_, _≤_};
+ghost use lib.ListN.{length};
+ghost use lib.Seq.{sets};
+ghost use Rattle.store.specs.Putting.{Putting};
+ghost use Rattle.lines.specs.Lines.{listed, entriesEach, lengthEntry, lineEntries, entries};
 
 // How many entries of the store a record takes.
 pub const ENTRIES_EACH: usize = 8;
 
 // Writes a record, if there is one, and returns the place after it. The caller guarantees the room.
-pub(crate) fn put(store: &mut [i64], at: usize, line: MaybeLine) -> usize {
-    let MaybeLine::Some(l) = line else {
-        return at;
-    };
-    put_line(store, at, l);
-    at + ENTRIES_EACH
+pub(crate) fn put(store: &mut [i64], at: usize, line: MaybeLine) -> usize
+    requires { ⌜ at + entriesEach * length (listed line) ≤ length (now store) ⌝ }
+    ensures { λ r. ⌜ Putting (entries (listed line)) (now (store .entry)) at (now (store .exit)) r ⌝ }
+{
+    match line {
+        MaybeLine::None => at,
+        MaybeLine::Some(l) => {
+            put_line(store, at, l);
+            at + ENTRIES_EACH
+        }
+    }
 }
 
-fn put_line(store: &mut [i64], at: usize, line: Line) {
+// Writes a record. The caller guarantees the room.
+fn put_line(store: &mut [i64], at: usize, line: Line)
+    requires { ⌜ at + entriesEach ≤ length (now store) ⌝ }
+    ensures { λ r. ⌜ now (store .exit) ≡ sets (now (store .entry)) at (lineEntries line) ⌝ }
+{
     let p = line.at;
+    let length = line.length;
     store[at] = p.offset() as i64;
-    store[at + 1] = entry_of(line.length);
+    store[at + 1] = entry_of(length);
     store[at + 2] = wide(p.file);
     store[at + 3] = p.line;
     store[at + 4] = wide(p.count);
@@ -29,7 +45,9 @@ fn put_line(store: &mut [i64], at: usize, line: Line) {
 }
 
 // The entry of a length: -1 for none.
-fn entry_of(length: Length) -> i64 {
+fn entry_of(length: Length) -> i64
+    ensures { λ r. ⌜ r ≡ lengthEntry length ⌝ }
+{
     match length {
         Length::None => -1,
         Length::Bytes(n) => wide(n),

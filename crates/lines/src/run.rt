@@ -9,6 +9,15 @@ use line_state::MaybeLine;
 use line_state::State;
 use line_state::Turned;
 use line_state::turn;
+ghost use mathlib.Core.Path.{_≡_};
+ghost use lib.ListN.{length};
+ghost use Rattle.outcome.specs.Store.{written};
+ghost use Rattle.lines.specs.Lines.{listed, entries, needed};
+ghost use Rattle.lines.specs.Promises.{Running};
+ghost use Rattle.lines.specs.Inner.{allLines, Counting, Accepted};
+
+// Of so many records, and more, 64 bits cannot say how many entries they need.
+const TOO_MANY: usize = 0x2000_0000_0000_0000;
 
 pub enum Ran {
     // How many records there are.
@@ -22,9 +31,10 @@ pub(crate) enum Counted {
 }
 
 // Runs a line program, and writes its records to the front of the store. Refuses with 7, 8, 9, 25 or 10.
-pub fn run_lines(bytes: &[u8], store: &mut [i64]) -> Ran {
-    let c = count_lines(bytes);
-    match c {
+pub fn run_lines(bytes: &[u8], store: &mut [i64]) -> Ran
+    ensures { λ r. ⌜ Running (now (bytes .entry)) (now (store .entry)) r (now (store .exit)) ⌝ }
+{
+    match count_lines(bytes) {
         Counted::Refused(why) => Ran::Refused(why),
         Counted::Lines(n) => {
             if store.len() / ENTRIES_EACH < n {
@@ -37,7 +47,9 @@ pub fn run_lines(bytes: &[u8], store: &mut [i64]) -> Ran {
 }
 
 // Counts the records, unless an annotation is refused.
-fn count_lines(bytes: &[u8]) -> Counted {
+fn count_lines(bytes: &[u8]) -> Counted
+    ensures { λ r. ⌜ Counting (now (bytes .entry)) r ⌝ }
+{
     let mut state = State::new();
     let mut at: usize = 0;
     let mut i: usize = 0;
@@ -45,55 +57,72 @@ fn count_lines(bytes: &[u8]) -> Counted {
     loop {
         match step_at(bytes, at) {
             Step::Annotation(a) => {
-                let Turned::On(t) = turn(state, a.annotation) else {
+                let annotation = a.annotation;
+                let Turned::On(t) = turn(state, annotation) else {
                     return Counted::Refused(Refusal::BadLine(i));
                 };
-                state = t.state;
-                n += count_of(t.closed);
+                let after = t.state;
+                let closed = t.closed;
+                state = after;
+                n += count_of(closed);
                 at = a.next;
                 i += 1;
             }
-            Step::End(_) => return Counted::Lines(n + count_of(state.last)),
+            Step::End(_) => {
+                let last = state.last;
+                return Counted::Lines(n + count_of(last));
+            }
             Step::Refused(why) => return Counted::Refused(Refusal::Annotation(why)),
         }
     }
 }
 
-fn count_of(line: MaybeLine) -> usize {
-    match line {
-        MaybeLine::None => 0,
-        MaybeLine::Some(_) => 1,
-    }
-}
-
-// The entries that so many records need. More than the largest number cannot be said.
-fn entries_needed(n: usize) -> usize {
-    if n < 0x2000_0000_0000_0000 {
-        return ENTRIES_EACH * n;
-    }
-    0xffff_ffff_ffff_ffff
-}
-
-// Writes all records. The first pass has accepted the program, and the caller guarantees the room.
-fn write_lines(bytes: &[u8], store: &mut [i64]) {
+// Writes all records from the front. The program was accepted, and the caller guarantees the room.
+fn write_lines(bytes: &[u8], store: &mut [i64])
+    requires { ⌜ Accepted (now bytes) (length (now store)) ⌝ }
+    ensures { λ r. ⌜ now (store .exit) ≡ written (allLines (now (bytes .entry))) entries (now (store .entry)) ⌝ }
+{
     let mut state = State::new();
     let mut at: usize = 0;
     let mut k: usize = 0;
     loop {
         match step_at(bytes, at) {
             Step::Annotation(a) => {
-                let Turned::On(t) = turn(state, a.annotation) else {
+                let annotation = a.annotation;
+                let Turned::On(t) = turn(state, annotation) else {
                     return;
                 };
-                state = t.state;
-                k = put(store, k, t.closed);
+                let after = t.state;
+                let closed = t.closed;
+                state = after;
+                k = put(store, k, closed);
                 at = a.next;
             }
             Step::End(_) => {
-                put(store, k, state.last);
+                let last = state.last;
+                put(store, k, last);
                 return;
             }
             Step::Refused(_) => return,
         }
     }
+}
+
+fn count_of(line: MaybeLine) -> usize
+    ensures { λ r. ⌜ r ≡ length (listed line) ⌝ }
+{
+    match line {
+        MaybeLine::None => 0,
+        MaybeLine::Some(_) => 1,
+    }
+}
+
+// The entries that so many records need, or the largest number if they need more.
+fn entries_needed(n: usize) -> usize
+    ensures { λ r. ⌜ r ≡ needed n ⌝ }
+{
+    if n < TOO_MANY {
+        return ENTRIES_EACH * n;
+    }
+    0xffff_ffff_ffff_ffff
 }
