@@ -1,0 +1,4 @@
+pub mod EntryLaws
+pub mod ProgramLaws
+pub mod LoopLaws
+pub mod RanLaws

@@ -7,7 +7,8 @@ use Rattle.outcome.specs.Outcome.{Outcome, ok, refused}
 use Rattle.decode.specs.Decode.{decodeAll, DecodeStop}
 use Rattle.line_state.specs.State.{start}
 use Rattle.line_state.specs.declared.state.Line.{Line}
-use Rattle.lines.specs.Lines.{linesFrom, entriesEach, howMany}
+use Rattle.line_state.specs.declared.state.MaybeLine.{MaybeLine}
+use Rattle.lines.specs.Lines.{listed, linesFrom, entriesEach, howMany}
 use Rattle.lines.specs.Promises.{refusalIn}
 use Rattle.lines.specs.declared.run.Counted.{Counted}
 use Rattle.lines.specs.declared.run.Counted.the-variants.{Lines, Refused}
@@ -29,3 +30,8 @@ pub record Accepted (s : List ℕ) (room : ℕ) : Type 0 where
   pub lines : List Line
   pub is : allLines s ≡ ok lines
   pub fits : entriesEach * length lines ≤ room
+
+-- how many records these are: none or one
+pub record Held (m : MaybeLine) (n : ℕ) : Type 0 where
+  pub is : n ≡ length (listed m)
+  pub few : n ≤ 1

@@ -33,15 +33,17 @@ fn put_line(store: &mut [i64], at: usize, line: Line)
     ensures { λ r. ⌜ now (store .exit) ≡ sets (now (store .entry)) at (lineEntries line) ⌝ }
 {
     let p = line.at;
+    let number = p.line;
+    let end = p.end;
     let length = line.length;
     store[at] = p.offset() as i64;
     store[at + 1] = entry_of(length);
     store[at + 2] = wide(p.file);
-    store[at + 3] = p.line;
+    store[at + 3] = number;
     store[at + 4] = wide(p.count);
     store[at + 5] = wide(p.kind);
     store[at + 6] = wide(p.start);
-    store[at + 7] = p.end;
+    store[at + 7] = end;
 }
 
 // The entry of a length: -1 for none.

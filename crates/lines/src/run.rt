@@ -12,9 +12,9 @@ use line_state::turn;
 ghost use mathlib.Core.Path.{_≡_};
 ghost use lib.ListN.{length};
 ghost use Rattle.outcome.specs.Store.{written};
-ghost use Rattle.lines.specs.Lines.{listed, entries, needed};
+ghost use Rattle.lines.specs.Lines.{entries, needed};
 ghost use Rattle.lines.specs.Promises.{Running};
-ghost use Rattle.lines.specs.Inner.{allLines, Counting, Accepted};
+ghost use Rattle.lines.specs.Inner.{allLines, Counting, Accepted, Held};
 
 // Of so many records, and more, 64 bits cannot say how many entries they need.
 const TOO_MANY: usize = 0x2000_0000_0000_0000;
@@ -109,7 +109,7 @@ fn write_lines(bytes: &[u8], store: &mut [i64])
 }
 
 fn count_of(line: MaybeLine) -> usize
-    ensures { λ r. ⌜ r ≡ length (listed line) ⌝ }
+    ensures { λ r. ⌜ Held line r ⌝ }
 {
     match line {
         MaybeLine::None => 0,
