@@ -21,10 +21,10 @@ refusalIn (refusal.Annotation why) = withPlace (stopIn why)
 refusalIn (refusal.BadLine i) = badLine i
 refusalIn (refusal.NoRoom n) = noRoom n
 
--- a place as a number: 0 for none
-abbrev pub placeIn : Option ℕ → ℕ
-placeIn none = 0
-placeIn (some place) = place
+-- a place as a number, 0 for none
+abbrev pub placeOr0 : Option ℕ → ℕ
+placeOr0 none = 0
+placeOr0 (some place) = place
 
 -- what the answer says on paper
 abbrev pub ranIn : Ran → Outcome DecodeStop ℕ

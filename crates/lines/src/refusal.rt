@@ -1,7 +1,7 @@
 // Why a line program is refused: the decoder's 7, 8 and 9, then 25 of request 2026-07, and 10.
 use numbers::PlacedRefusal;
 ghost use mathlib.Core.Path.{_≡_};
-ghost use Rattle.lines.specs.Promises.{refusalIn, placeIn};
+ghost use Rattle.lines.specs.Promises.{refusalIn, placeOr0};
 
 pub enum Refusal {
     // 7, 8 or 9: the decoder's refusal, with its place.
@@ -43,7 +43,7 @@ impl Refusal {
 
     // The place after the decoder's refusal. 25 and 10 have none, and this is 0.
     pub fn place(self) -> usize
-        ensures { λ r. ⌜ r ≡ placeIn (refusalIn self .place) ⌝ }
+        ensures { λ r. ⌜ r ≡ placeOr0 (refusalIn self .place) ⌝ }
     {
         match self {
             Refusal::Annotation(why) => why.place,

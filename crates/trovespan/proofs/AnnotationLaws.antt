@@ -30,7 +30,7 @@ use Rattle.annotation_writer.specs.Promises.{writtenIn, Writing}
 use Rattle.annotation_writer.specs.declared.refusal.Refusal as why-writer
 use Rattle.annotation_writer.specs.declared.write.Written.{Written}
 use Rattle.annotation_writer.specs.declared.write.Written.the-variants as written-variants
-use Rattle.trovespan.specs.Crossing.{told, opcodeOf, firstOf, secondOf, shortestOf, nextOf, placeOr0}
+use Rattle.trovespan.specs.Crossing.{told, opcodeOf, firstOf, secondOf, shortestOf, nextOf}
 use Rattle.trovespan.specs.Promises.{Numbers, Steps, Decodes, Writes}
 
 -- ---- a bool crosses as its number
@@ -85,13 +85,13 @@ module _ {s : List ℕ} {store store′ : List ℤ} {r : Decoded} (p : Decoding 
       record { answer = record { number = rw k; value = rw k }; place-told = rw k; after = p .after }
 
   pub decodes-refused : {why : PlacedRefusal} {n v : ℕ} → r ≡ decoded.Refused why → n ≡ refusalIn (why .refusal) .number → v ≡ refusalIn (why .refusal) .value → Decodes s store n v (why .place) store′
-  unfolding told raise decodedIn placeOr0
+  unfolding told raise decodedIn
   decodes-refused {why} e n v =
       let k : _ ≡ refused (withPlace (stopIn why)) = sym (p .answer) ∙ ap decodedIn e in
       record { answer = record { number = rw k n; value = rw k v }; place-told = rw k; after = p .after }
 
   pub decodes-no-room : {needed : ℕ} → r ≡ decoded.NoRoom needed → Decodes s store 10 needed 0 store′
-  unfolding told raise decodedIn placeOr0
+  unfolding told raise decodedIn
   decodes-no-room {needed} e =
       let k : _ ≡ refused (noRoom needed) = sym (p .answer) ∙ ap decodedIn e in
       record { answer = record { number = rw k; value = rw k }; place-told = rw k; after = p .after }

@@ -1,3 +1,4 @@
 mod ContainerLaws
 mod AnnotationLaws
+mod LineLaws
 pub mod Statements

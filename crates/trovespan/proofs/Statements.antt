@@ -10,6 +10,9 @@ use Rattle.numbers.specs.declared.refusal.Refusal.the-variants as annotations-v
 use Rattle.annotation_writer.specs.Refusal as writer
 use Rattle.annotation_writer.specs.declared.refusal.Refusal as why-writer
 use Rattle.annotation_writer.specs.declared.refusal.Refusal.the-variants as writer-variants
+use Rattle.lines.specs.Promises as lines
+use Rattle.lines.specs.declared.refusal.Refusal as why-lines
+use Rattle.lines.specs.declared.refusal.Refusal.the-variants as lines-variants
 use Rattle.container_layout.specs.Refusal as packer
 use Rattle.container_layout.specs.declared.refusal.Refusal as why-packer
 use Rattle.container_layout.specs.declared.refusal.Refusal.the-variants as packer-variants
@@ -39,6 +42,8 @@ single-valued =
           (same (p .answer .number) (q .answer .number) i, same (p .answer .value) (q .answer .value) i, same (p .first-told) (q .first-told) i, same (p .second-told) (q .second-told) i, same (p .shortest-told) (q .shortest-told) i, same (p .next-told) (q .next-told) i);
       decode = λ s store a b p q i.
           (same (p .answer .number) (q .answer .number) i, same (p .answer .value) (q .answer .value) i, same (p .place-told) (q .place-told) i, same (p .after) (q .after) i);
+      run-lines = λ s store a b p q i.
+          (same (p .answer .number) (q .answer .number) i, same (p .answer .value) (q .answer .value) i, same (p .place-told) (q .place-told) i, same (p .after) (q .after) i);
       write-annotations = λ list out a b p q i.
           (same (p .answer .number) (q .answer .number) i, same (p .answer .value) (q .answer .value) i, same (p .after) (q .after) i);
       write-container = λ size sizes bytes out a b p q i.
@@ -65,6 +70,11 @@ writer-apart : (why : why-writer.Refusal) → NotZero (writer.refusalIn why .num
 writer-apart (writer-variants.BadRecord index) = omega arith
 writer-apart writer-variants.RaggedList = omega arith
 writer-apart (writer-variants.NoRoom needed) = omega arith
+
+lines-apart : (why : why-lines.Refusal) → NotZero (lines.refusalIn why .refusal .number)
+lines-apart (lines-variants.Annotation why) = annotations-apart (why .refusal) .0
+lines-apart (lines-variants.BadLine index) = omega arith
+lines-apart (lines-variants.NoRoom needed) = omega arith
 
 packer-apart : (why : why-packer.Refusal) → NotZero (packer.refusalIn why .number)
 packer-apart (packer-variants.InvalidPageSize size) = omega arith
@@ -94,6 +104,7 @@ apart =
       container-refusal = container-apart;
       annotations-refusal = λ why. annotations-apart why .0;
       writer-refusal = writer-apart;
+      lines-refusal = lines-apart;
       packer-refusal = packer-apart;
       opcode = opcode-apart;
       placed = λ why. annotations-apart why .1;

@@ -1,7 +1,6 @@
 -- How answers cross to Rust and C: as numbers.
 use mathlib.Core.Path.{_≡_}
 use mathlib.Core.Bool.{Bool, cond}
-use mathlib.Core.Option.{Option, none, some}
 use Prim.Native.Nat.{ℕ}
 use lib.IntN.{ℤ, pos}
 use Rattle.outcome.specs.Outcome.{Outcome, ok, refused}
@@ -46,8 +45,3 @@ shortestOf (end place) = 0
 unfoldable pub nextOf : Stepped → ℕ
 nextOf (annotation x) = x .next
 nextOf (end place) = place
-
--- ---- the place of a refusal of decoding; refusal 10 alone has none
-unfoldable pub placeOr0 : Option ℕ → ℕ
-placeOr0 none = 0
-placeOr0 (some place) = place

@@ -26,7 +26,10 @@ use Rattle.annotation_writer.specs.Writing.{listBytes, writing}
 use Rattle.container_layout.specs.Container.{container}
 use Rattle.container_writer.specs.Writing as container-writer
 use Rattle.container_writer.specs.Writing.{firstBytes}
-use Rattle.trovespan.specs.Crossing.{told, Tells, opcodeOf, firstOf, secondOf, shortestOf, nextOf, placeOr0}
+use Rattle.lines.specs.Lines.{entries, running, howMany}
+use Rattle.lines.specs.Promises.{placeOr0}
+use Rattle.line_state.specs.declared.state.Line.{Line}
+use Rattle.trovespan.specs.Crossing.{told, Tells, opcodeOf, firstOf, secondOf, shortestOf, nextOf}
 
 -- ---- the container. Where a refusal has nothing to say, the number is 0
 pub record Opens (f : File) (len r value used : ℕ) : Type 0 where
@@ -79,6 +82,16 @@ pub record DecodesOf (s : List ℕ) (o : Outcome DecodeStop ℕ) (store : List �
 
 abbrev pub Decodes : List ℕ → List ℤ → ℕ → ℕ → ℕ → List ℤ → Type 0
 Decodes s store = DecodesOf s (decoding s (length store)) store
+
+-- (o is what running the line program answers)
+pub record RunsOf (o : Outcome DecodeStop (List Line)) (store : List ℤ) (r value place : ℕ) (store′ : List ℤ)
+    : Type 0 where
+  pub answer : Tells (raise (λ (x : DecodeStop). x .refusal) (howMany o)) (λ n. n) r value
+  pub place-told : place ≡ told (λ _. 0) (λ (x : DecodeStop). placeOr0 (x .place)) o
+  pub after : store′ ≡ written o entries store
+
+abbrev pub Runs : List ℕ → List ℤ → ℕ → ℕ → ℕ → List ℤ → Type 0
+Runs s store = RunsOf (running s (length store)) store
 
 -- ---- the writers. (o is what writing answers, and these are the bytes that it writes)
 pub record WritesOf (bytes : ℕ → List ℕ) (o : Outcome paper.Refusal ℕ) (out : List ℕ) (r value : ℕ) (out′ : List ℕ)

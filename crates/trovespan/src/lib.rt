@@ -1,8 +1,8 @@
 // The static library that Rust and C link: each operation as a C function over numbers and slices. A slice crosses as a
 // pointer and a length.
 //
-// Each function returns 0 on success, else the refusal's number in document 01's table, 20 or 21 of request 2026-01, or
-// 22 to 24 of request 2026-05.
+// Each function returns 0 on success, else the refusal's number in document 01's table, 20 or 21 of request 2026-01, 22
+// to 24 of request 2026-05, or 25 of request 2026-07.
 // It writes its other results to the numbers that it is lent: on a refusal `value` is the refusal's value, and a number
 // that has nothing to say is 0. The caller guarantees that what it lends is there and does not overlap, and nothing
 // else.
@@ -13,6 +13,8 @@ use annotations::operands_at;
 use container_writer::write_container;
 use decode::Decoded;
 use decode::decode_all;
+use lines::Ran;
+use lines::run_lines;
 use msf::Counted;
 use msf::Extracted;
 use msf::Limit;
@@ -26,7 +28,7 @@ ghost use mathlib.Core.Path.{_≡_};
 ghost use lib.ListN.{length};
 ghost use Rattle.parse_buffer.specs.Bytes.{byteAt};
 ghost use Rattle.trovespan.specs.Crossing.{limitOf};
-ghost use Rattle.trovespan.specs.Promises.{Opens, Counts, Maps, Extracts, Numbers, Steps, Decodes, Writes, Packs};
+ghost use Rattle.trovespan.specs.Promises.{Opens, Counts, Maps, Extracts, Numbers, Steps, Decodes, Runs, Writes, Packs};
 ghost use Rattle.trovespan.specs.Statements.{SingleValued, Apart};
 
 // Returned on success. No refusal has this number.
@@ -250,6 +252,32 @@ pub extern "C" fn trovespan_decode(
             *value = needed as u64;
             *place = 0;
             NO_ROOM
+        }
+    }
+}
+
+// `value` is the number of line records, `place` the place after a refusal of the decoder. 25 and 10 have no place.
+#[no_mangle]
+pub extern "C" fn trovespan_run_lines(
+    bytes: &[u8],
+    store: &mut [i64],
+    value: &mut u64,
+    place: &mut u64,
+) -> u32
+    ensures { λ r. ⌜
+        Runs (now (bytes .entry)) (now (store .entry)) r (now (value .exit)) (now (place .exit)) (now (store .exit))
+        ⌝ }
+{
+    match run_lines(bytes, store) {
+        Ran::Count(n) => {
+            *value = n as u64;
+            *place = 0;
+            ACCEPTED
+        }
+        Ran::Refused(why) => {
+            *value = why.value();
+            *place = why.place() as u64;
+            why.number()
         }
     }
 }
