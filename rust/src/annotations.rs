@@ -34,13 +34,26 @@ pub enum Step {
     Refused(Refusal),
 }
 
-/// Why [`decode`] refuses.
+/// Why [`decode`] or [`run_lines`](crate::run_lines) refuses.
 #[derive(Clone, Copy, Debug, PartialEq, Eq, Hash)]
 pub struct DecodeRefusal {
-    /// The first refusal met: 7, 8 or 9, or 10 if there is no other.
+    /// The first refusal met: 7, 8 or 9, or 25 of a line program, or 10 if there is no other.
     pub refusal: Refusal,
-    /// The place after what was refused. `None` for 10.
+    /// The place after what was refused. 25 and 10 have none.
     pub place: Option<usize>,
+}
+
+impl DecodeRefusal {
+    /// As `Refusal::judge`, with the place of a refusal that has one.
+    pub(crate) fn judge(number: u32, value: u64, place: u64) -> Result<(), Self> {
+        Refusal::judge(number, value).map_err(|refusal| {
+            let place = match refusal.kind() {
+                Kind::BadLine | Kind::NoRoom => None,
+                _ => Some(place as usize),
+            };
+            Self { refusal, place }
+        })
+    }
 }
 
 /// Returns the compressed number at a place, and the place after it.
@@ -100,10 +113,7 @@ pub const ENTRIES_EACH: usize = 4;
 /// ```
 pub fn decode(bytes: &[u8], store: &mut [i64]) -> Result<usize, DecodeRefusal> {
     let (number, value, place) = ffi::decode(bytes, store);
-    Refusal::judge(number, value).map_err(|refusal| {
-        let place = if refusal.kind() == Kind::NoRoom { None } else { Some(place as usize) };
-        DecodeRefusal { refusal, place }
-    })?;
+    DecodeRefusal::judge(number, value, place)?;
     Ok(value as usize)
 }
 

@@ -33,6 +33,7 @@
 //!         UnrecognizedFileFormat | UnimplementedFeature | InvalidPageSize | PageReferenceOutOfRange => true,
 //!         StreamNotFound | FileEnds | ShortData | InvalidCompressedAnnotation | UnknownBinaryAnnotation => true,
 //!         NoRoom | OverLimit | BadRecord | RaggedList | SizesDiffer | DirectoryTooLarge | Over32Bits => true,
+//!         BadLine => true,
 //!         Other(_) => false,
 //!     }
 //! }

@@ -71,6 +71,14 @@ mod c {
             value: *mut u64,
             place: *mut u64,
         ) -> u32;
+        pub fn trovespan_run_lines(
+            bytes: *const u8,
+            bytes_len: usize,
+            store: *mut i64,
+            store_len: usize,
+            value: *mut u64,
+            place: *mut u64,
+        ) -> u32;
         pub fn trovespan_write_annotations(
             records: *const i64,
             records_len: usize,
@@ -96,6 +104,9 @@ pub const NO_OPCODE: u32 = 0;
 
 /// The flag of a number, or of an annotation's numbers, in their shortest form.
 pub const SHORTEST: u64 = 1;
+
+/// The length of a line record that has none.
+pub const NO_LENGTH: i64 = -1;
 
 pub fn open(file: &[u8]) -> (u32, u64, u64) {
     let (mut value, mut used) = (0, 0);
@@ -187,6 +198,16 @@ pub fn decode(bytes: &[u8], store: &mut [i64]) -> (u32, u64, u64) {
     // not overlap; `value` and `place` are different local numbers.
     let number = unsafe {
         c::trovespan_decode(bytes.as_ptr(), bytes.len(), store.as_mut_ptr(), store.len(), &mut value, &mut place)
+    };
+    (number, value, place)
+}
+
+pub fn run_lines(bytes: &[u8], store: &mut [i64]) -> (u32, u64, u64) {
+    let (mut value, mut place) = (0, 0);
+    // SAFETY: `bytes` and `store` are borrowed for the call, each with its own length, and `store` mutably, so they do
+    // not overlap; `value` and `place` are different local numbers.
+    let number = unsafe {
+        c::trovespan_run_lines(bytes.as_ptr(), bytes.len(), store.as_mut_ptr(), store.len(), &mut value, &mut place)
     };
     (number, value, place)
 }

@@ -5,6 +5,7 @@
 //! - Below these, [`open`], [`stream_count`], [`map`] and [`extract`] read a container into stores that the caller
 //!   lends, and [`number`], [`step`] and [`decode`] read annotations as numbers, and say whether these have their
 //!   shortest form.
+//! - [`run_lines`] runs the line program of annotations into such a store, and [`line_records`] reads its line records.
 //! - [`write_container`] and [`write_annotations`] write them, into stores that the caller lends.
 //!
 //! Every function returns for any input.
@@ -73,6 +74,7 @@
 //! | 22 | `SizesDiffer` | 0 | the sizes of the streams to be written do not sum to the number of their bytes |
 //! | 23 | `DirectoryTooLarge` | 0 | one page cannot hold the numbers of the pages of the directory to be written |
 //! | 24 | `Over32Bits` | 0 | the size of the directory to be written, or the number of pages, takes more than 32 bits |
+//! | 25 | `BadLine` | the annotation's index, from 0 | an annotation cannot be run in a line program, as [`run_lines`] says |
 //!
 //! If several conditions hold, the first one met in reading decides. [`write_annotations`] judges in the order 21, 20,
 //! 10, and [`write_container`] in the order 3, 22, 23, 24, 10.
@@ -107,6 +109,7 @@ mod extraction;
 #[allow(unsafe_code)]
 mod ffi;
 mod iter;
+mod lines;
 #[cfg(feature = "alloc")]
 mod mapping;
 mod msf;
@@ -119,6 +122,7 @@ pub use container::{Container, Stream};
 #[cfg(feature = "alloc")]
 pub use extraction::{extract_to_vec, ExtractError, AT_MOST};
 pub use iter::{annotations, Annotations, PlacedAnnotation, PlacedRefusal};
+pub use lines::{line_records, run_lines, LineRecord, LineRecords, LINE_ENTRIES};
 #[cfg(feature = "alloc")]
 pub use mapping::{map_to_vec, MapError, SourceSlice, AT_MOST_SLICES};
 pub use msf::{extract, map, open, slice_count, stream_count, stream_length, write_container, Mapped, Opened, ABSENT};

@@ -48,6 +48,8 @@ pub enum Kind {
     DirectoryTooLarge,
     /// 24: the directory's size, or the number of pages, takes more than 32 bits.
     Over32Bits,
+    /// 25: an annotation cannot be run in a line program.
+    BadLine,
     /// A number that has no name here.
     Other(u32),
 }
@@ -81,6 +83,7 @@ impl Refusal {
             22 => Kind::SizesDiffer,
             23 => Kind::DirectoryTooLarge,
             24 => Kind::Over32Bits,
+            25 => Kind::BadLine,
             other => Kind::Other(other),
         }
     }
@@ -129,6 +132,7 @@ impl Display for Refusal {
             Kind::SizesDiffer => write!(f, "the sizes do not sum to the number of bytes"),
             Kind::DirectoryTooLarge => write!(f, "the directory has more pages than one page can number"),
             Kind::Over32Bits => write!(f, "the directory's size or the number of pages takes more than 32 bits"),
+            Kind::BadLine => write!(f, "annotation {value}, counted from 0, cannot be run in a line program"),
             Kind::Other(_) => write!(f, "a reason that has no name here, with value {value}"),
         }
     }

@@ -3,7 +3,7 @@
 use trovespan::{DecodeRefusal, Kind, Refusal};
 
 /// Each number and its name. 12 stands for those that have none.
-const NAMES: [(u32, &str); 17] = [
+const NAMES: [(u32, &str); 18] = [
     (1, "UnrecognizedFileFormat"),
     (2, "UnimplementedFeature"),
     (3, "InvalidPageSize"),
@@ -21,6 +21,7 @@ const NAMES: [(u32, &str); 17] = [
     (22, "SizesDiffer"),
     (23, "DirectoryTooLarge"),
     (24, "Over32Bits"),
+    (25, "BadLine"),
 ];
 
 fn said(number: u32) -> String {
@@ -45,7 +46,7 @@ fn each_number_has_one_line_of_its_own() {
 #[test]
 fn a_line_has_the_value_where_the_number_has_one() {
     for (number, _) in NAMES {
-        assert_eq!(said(number).contains("77"), [3, 4, 5, 9, 10, 11, 12, 20].contains(&number), "{}", said(number));
+        assert_eq!(said(number).contains("77"), [3, 4, 5, 9, 10, 11, 12, 20, 25].contains(&number), "{}", said(number));
     }
 }
 
@@ -54,7 +55,7 @@ fn each_number_has_its_name() {
     for (number, name) in NAMES {
         assert_eq!(format!("{:?}", Refusal { number, value: 0 }.kind()), name);
     }
-    for number in [0, 12, 19, 25, u32::MAX] {
+    for number in [0, 12, 19, 26, u32::MAX] {
         assert_eq!(Refusal { number, value: 0 }.kind(), Kind::Other(number));
     }
 }
