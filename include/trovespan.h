@@ -71,8 +71,13 @@ enum {
     /* Value 0. One page cannot hold the numbers of the pages of the directory to be written. */
     TROVESPAN_DIRECTORY_TOO_LARGE = 23,
     /* Value 0. The size of the directory to be written, or the number of pages, takes more than 32 bits. */
-    TROVESPAN_OVER_32_BITS = 24
+    TROVESPAN_OVER_32_BITS = 24,
+    /* The annotation's index, from 0. An annotation cannot be run in a line program, as trovespan_run_lines says. */
+    TROVESPAN_BAD_LINE = 25
 };
+
+/* The length of a line record that has none, in the store of trovespan_run_lines. */
+#define TROVESPAN_NO_LENGTH INT64_C(-1)
 
 /* The size that stands for an absent stream in the list that trovespan_write_container takes. */
 #define TROVESPAN_ABSENT UINT32_C(0xffffffff)
@@ -132,6 +137,42 @@ uint32_t trovespan_step(const uint8_t *bytes, size_t bytes_len, size_t at, uint6
  */
 uint32_t trovespan_decode(const uint8_t *bytes, size_t bytes_len, int64_t *store, size_t store_len, uint64_t *value,
                           uint64_t *place);
+
+/*
+ * Runs the line program of an inlined function. Writes its line records to the front of `store`, eight entries each:
+ * offset, length or TROVESPAN_NO_LENGTH, file, first line, line count, kind, start column, end column. `value` is the
+ * number of records. The line and the end column may be below zero; the other entries are at most 4294967295.
+ *
+ * At the start the code offset, its base, the file, the line and both columns are 0, the line count and the kind 1. The
+ * annotations change these in turn, and a record has what they have come to when it is emitted. Its offset is the base
+ * plus the code offset.
+ *
+ *     opcode    what it does
+ *     1         sets the code offset
+ *     2         sets the base
+ *     3         advances the code offset, and emits a record
+ *     4         sets the length of the record before it
+ *     5         sets the file
+ *     6         advances the line
+ *     7         sets the line count
+ *     8         sets the kind: 0 for an expression, 1 for a statement; others are kept as they are given
+ *     9         sets the start column
+ *     10        advances the end column
+ *     11        advances the code offset by its first operand and the line by its second, and emits a record
+ *     12        advances the code offset by its second operand, and emits a record whose length is its first
+ *     13        sets the end column
+ *
+ * If a record has no length when the next one is emitted, it gets the difference of their offsets. So only the last may
+ * have none.
+ *
+ * Refuses with the first refusal met, annotation after annotation: that of a step, and then `place` is the place after
+ * it; or 25, if the offset of an emitted record takes more than 32 bits, or is below that of the record before it,
+ * which has no length yet; if the line or the end column leaves 64 bits; or if 4 comes before any record. If none is
+ * met, refuses with 10 if the store has fewer than eight entries for each record. But for the refusal of a step,
+ * `place` is 0.
+ */
+uint32_t trovespan_run_lines(const uint8_t *bytes, size_t bytes_len, int64_t *store, size_t store_len, uint64_t *value,
+                             uint64_t *place);
 
 /*
  * Writes annotations as bytes to the front of `out`. `records` has three numbers for each, the first three of the four that

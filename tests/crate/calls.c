@@ -171,6 +171,80 @@ static void decode(void) {
     CHECK(memcmp(store, wanted, sizeof wanted) == 0 && untouched(store + 8, 8));
 }
 
+/* A program with each opcode: its records, and the room for them. Then one whose offsets fall where no length is due. */
+static void run_lines(void) {
+    static const uint8_t bytes[] = {1, 16, 2, 100, 5, 24, 6, 15, 7, 2, 8, 0, 9, 4, 13, 9, 10, 22, 3, 5,
+                                    11, 0x72, 12, 6, 7, 3, 1, 4, 3, 0, 14};
+    static const int64_t wanted[] = {121, 2, 24, -7, 2, 0, 4, 20, 123, 7, 24, -10, 2, 0, 4, 20,
+                                     130, 6, 24, -10, 2, 0, 4, 20, 131, 3, 24, -10, 2, 0, 4, 20};
+    static const uint8_t lower[] = {1, 100, 12, 5, 0, 1, 0, 3, 0};
+    static const int64_t wanted_lower[] = {100, 5, 0, 0, 1, 1, 0, 0, 0, TROVESPAN_NO_LENGTH, 0, 0, 1, 1, 0, 0};
+    int64_t store[33];
+    uint64_t value = 77, place = 77;
+    memset(store, UNTOUCHED, sizeof store);
+    CHECK(trovespan_run_lines(bytes, sizeof bytes, store, 31, &value, &place) == TROVESPAN_NO_ROOM);
+    CHECK(value == 32 && place == 0);
+    place = 77;
+    CHECK(trovespan_run_lines(bytes, sizeof bytes, NULL, 0, &value, &place) == TROVESPAN_NO_ROOM);
+    CHECK(value == 32 && place == 0);
+    place = 77;
+    CHECK(trovespan_run_lines(NULL, 0, store, 33, &value, &place) == 0 && value == 0 && place == 0);
+    CHECK(untouched(store, sizeof store));
+    place = 77;
+    CHECK(trovespan_run_lines(bytes, sizeof bytes, store, 33, &value, &place) == 0 && value == 4 && place == 0);
+    CHECK(memcmp(store, wanted, sizeof wanted) == 0 && untouched(store + 32, 8));
+    memset(store, UNTOUCHED, sizeof store);
+    CHECK(trovespan_run_lines(lower, sizeof lower, store, 16, &value, &place) == 0 && value == 2 && place == 0);
+    CHECK(memcmp(store, wanted_lower, sizeof wanted_lower) == 0 && untouched(store + 16, 17 * 8));
+}
+
+/* Programs that are refused, each into a store that has room for its records, and into none. */
+static void refused_lines(void) {
+    static const struct {
+        uint8_t bytes[9];
+        size_t length;
+        uint32_t why;
+        uint64_t value, place;
+    } wanted[] = {
+        {{3, 5, 12, 1}, 4, TROVESPAN_SHORT_DATA, 0, 4},
+        {{3, 5, 3, 0xe0, 0, 0, 0, 3, 5}, 9, TROVESPAN_INVALID_COMPRESSED_ANNOTATION, 0, 7},
+        {{3, 5, 14, 4, 4}, 5, TROVESPAN_UNKNOWN_BINARY_ANNOTATION, 14, 3},
+        {{14, 4, 4}, 3, TROVESPAN_UNKNOWN_BINARY_ANNOTATION, 14, 1},
+        {{5, 1, 4, 4, 14}, 5, TROVESPAN_BAD_LINE, 1, 0}, /* a length before any record */
+        {{1, 8, 3, 0, 1, 0, 3, 7}, 8, TROVESPAN_BAD_LINE, 3, 0}, /* a falling offset */
+    };
+    int64_t store[16];
+    uint64_t value, place;
+    memset(store, UNTOUCHED, sizeof store);
+    for (size_t i = 0; i < sizeof wanted / sizeof wanted[0]; i++) {
+        value = place = 77;
+        CHECK(trovespan_run_lines(wanted[i].bytes, wanted[i].length, store, 16, &value, &place) == wanted[i].why);
+        CHECK(value == wanted[i].value && place == wanted[i].place);
+        value = place = 77;
+        CHECK(trovespan_run_lines(wanted[i].bytes, wanted[i].length, NULL, 0, &value, &place) == wanted[i].why);
+        CHECK(value == wanted[i].value && place == wanted[i].place);
+    }
+    CHECK(untouched(store, sizeof store));
+}
+
+/* Offsets up to the largest: eight advances of 2^29 - 1, then 7 bytes more. */
+static void largest_offset(void) {
+    static const uint8_t advance[] = {3, 0xdf, 0xff, 0xff, 0xff};
+    uint8_t bytes[8 * sizeof advance + 2];
+    int64_t store[72];
+    uint64_t value = 77, place = 77;
+    for (size_t i = 0; i < 8; i++)
+        memcpy(bytes + i * sizeof advance, advance, sizeof advance);
+    bytes[40] = 3;
+    bytes[41] = 8;
+    memset(store, UNTOUCHED, sizeof store);
+    CHECK(trovespan_run_lines(bytes, sizeof bytes, store, 72, &value, &place) == TROVESPAN_BAD_LINE);
+    CHECK(value == 8 && place == 0 && untouched(store, sizeof store));
+    bytes[41] = 7;
+    CHECK(trovespan_run_lines(bytes, sizeof bytes, store, 72, &value, &place) == 0 && value == 9 && place == 0);
+    CHECK(store[56] == 0xfffffff8 && store[57] == 7 && store[64] == 0xffffffff && store[65] == TROVESPAN_NO_LENGTH);
+}
+
 static void write_annotations(void) {
     static const int64_t records[] = {3, 5, 0, 11, 2, -3, 6, -7, 0, 12, 0x102, 0x10000};
     static const int64_t decoded[] = {3, 5, 0, 1, 11, 2, -3, 1, 6, -7, 0, 1, 12, 0x102, 0x10000, 1};
@@ -230,6 +304,9 @@ int main(void) {
     annotations();
     long_forms();
     decode();
+    run_lines();
+    refused_lines();
+    largest_offset();
     write_annotations();
     write_container();
     printf("%d\n", checks);
