@@ -9,8 +9,8 @@ mod fields;
 
 use fields::{map_counts, opened, stepped, Found};
 use trovespan::{
-    annotations, decode, extract, number, slice_count, stream_count, stream_length, write_annotations, write_container,
-    DecodeRefusal, Number, Refusal,
+    annotations, decode, extract, number, run_lines, slice_count, stream_count, stream_length, write_annotations,
+    write_container, DecodeRefusal, Number, Refusal,
 };
 
 const VALUE: u64 = 0xfedc_ba98_7654_3210;
@@ -95,6 +95,19 @@ unsafe extern "C" fn trovespan_step(
 
 #[no_mangle]
 unsafe extern "C" fn trovespan_decode(
+    bytes: *const u8,
+    _: usize,
+    _: *mut i64,
+    _: usize,
+    value: *mut u64,
+    place: *mut u64,
+) -> u32 {
+    (*value, *place) = (VALUE, OTHER);
+    u32::from(*bytes)
+}
+
+#[no_mangle]
+unsafe extern "C" fn trovespan_run_lines(
     bytes: *const u8,
     _: usize,
     _: *mut i64,
@@ -213,6 +226,18 @@ fn decoding() {
     assert_eq!(decode(&[0], &mut []), Ok(VALUE as usize));
     assert_eq!(decode(&[9], &mut []), Err(DecodeRefusal { refusal: refusal(9), place: Some(OTHER as usize) }));
     assert_eq!(decode(&[10], &mut []), Err(DecodeRefusal { refusal: refusal(10), place: None }));
+}
+
+#[test]
+fn running_lines() {
+    let refused = |number: u8, place| Err(DecodeRefusal { refusal: refusal(number.into()), place });
+    assert_eq!(run_lines(&[0], &mut []), Ok(VALUE as usize));
+    for number in [7, 8, 9] {
+        assert_eq!(run_lines(&[number], &mut []), refused(number, Some(OTHER as usize)));
+    }
+    for number in [10, 25] {
+        assert_eq!(run_lines(&[number], &mut []), refused(number, None));
+    }
 }
 
 #[test]

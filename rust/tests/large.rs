@@ -7,7 +7,10 @@ mod zeros;
 
 use fields::{map_counts, opened, stepped, Found};
 use files::*;
-use trovespan::{decode, extract, number, stream_count, write_container, DecodeRefusal, Number, Refusal, ENTRIES_EACH};
+use trovespan::{
+    decode, extract, line_records, number, run_lines, stream_count, write_container, DecodeRefusal, Number, Refusal,
+    ENTRIES_EACH, LINE_ENTRIES,
+};
 use zeros::zeros;
 
 /// The first numbers that take 17 and 33 bits.
@@ -29,7 +32,7 @@ fn files_over_4_gib() {
     assert_eq!(out[..], stream_2());
 }
 
-/// Two entries are needed, or four. A success writes only these.
+/// Two entries are needed, or four, or eight. A success writes only these.
 #[test]
 fn stores_over_2_32_entries() {
     let mapped = Ok((2, 600));
@@ -43,6 +46,11 @@ fn stores_over_2_32_entries() {
     let store = zeros::<i64>(BITS_33 + 1);
     assert_eq!(decode(&[3, 5], store), Ok(1));
     assert_eq!(store[..5], [3, 5, 0, 1, 0]);
+
+    let store = zeros::<i64>(BITS_33 + 1);
+    assert_eq!(run_lines(&[3, 5], store), Ok(1));
+    assert_eq!(store[..9], [5, -1, 0, 0, 1, 1, 0, 0, 0]);
+    assert_eq!(line_records(store).len(), BITS_33 / LINE_ENTRIES);
 }
 
 #[test]
@@ -67,6 +75,9 @@ fn strings_over_4_gib() {
     let mut store = [0; 4];
     assert_eq!(decode(bytes, &mut store), Ok(1));
     assert_eq!(store, [3, 5, 0, 1]);
+    let mut store = [0; 8];
+    assert_eq!(run_lines(bytes, &mut store), Ok(1));
+    assert_eq!(store, [5, -1, 0, 0, 1, 1, 0, 0]);
 }
 
 #[test]
@@ -138,6 +149,32 @@ fn more_than_65536_annotations() {
     let unknown = Refusal { number: 9, value: 536_870_911 };
     assert_eq!(stepped(&bytes, 2 * count), (Found::Refused(unknown), 2 * count + 4));
     assert_eq!(decode(&bytes, &mut store), Err(DecodeRefusal { refusal: unknown, place: Some(2 * count + 4) }));
+}
+
+/// The count, the entries needed, the index and the place after a refusal, and a line and an offset that add up.
+#[test]
+fn more_than_65536_lines() {
+    let count = BITS_17 + 5;
+    let mut bytes = [11, 0x21].repeat(count); // a byte and a line on
+    let mut store = vec![0; LINE_ENTRIES * count];
+    assert_eq!(run_lines(&bytes, &mut store), Ok(count));
+    let records = line_records(&store).flatten().map(|record| (record.offset, record.length, record.line));
+    assert!(records.clone().take(count - 1).eq((1..count as u32).map(|at| (at, Some(1), at.into()))));
+    assert_eq!(records.last(), Some((count as u32, None, count as i64)));
+
+    let no_room = Refusal { number: 10, value: (LINE_ENTRIES * count) as u64 };
+    let short = &mut store[1..];
+    assert_eq!(run_lines(&bytes, short), Err(DecodeRefusal { refusal: no_room, place: None }));
+
+    bytes.extend([0xdf, 0xff, 0xff, 0xff]);
+    let unknown = Refusal { number: 9, value: 536_870_911 };
+    let refused = DecodeRefusal { refusal: unknown, place: Some(2 * count + 4) };
+    assert_eq!(run_lines(&bytes, &mut store), Err(refused));
+
+    bytes.truncate(2 * count);
+    bytes.extend([1, 0, 3, 0]); // a falling offset
+    let bad = Refusal { number: 25, value: count as u64 + 1 };
+    assert_eq!(run_lines(&bytes, &mut store), Err(DecodeRefusal { refusal: bad, place: None }));
 }
 
 /// Two pages of 8 MiB. The second holds the location list and the directory, and is every page of the one stream, so
