@@ -1,6 +1,6 @@
 use std::process::ExitCode;
 use std::{env, error::Error, fs};
-use trovespan::{Container, AT_MOST, ENTRIES_EACH, RECORD_ENTRIES};
+use trovespan::{Container, AT_MOST, ENTRIES_EACH, LINE_ENTRIES, RECORD_ENTRIES};
 
 fn main() -> ExitCode {
     match show() {
@@ -33,5 +33,12 @@ fn show() -> Result<(), Box<dyn Error>> {
     let mut out = [0; 4];
     let length = trovespan::write_annotations(&records, &mut out)?;
     println!("written {length}: {out:02x?}");
+
+    // The line records that annotations make. The first ends where the second begins. Nothing says where that ends.
+    let mut store = [0; 2 * LINE_ENTRIES];
+    let records = trovespan::run_lines(&[0x0b, 0x26, 0x0b, 0x43], &mut store)?;
+    for record in trovespan::line_records(&store[..LINE_ENTRIES * records]).flatten() {
+        println!("line {} at {}, length {:?}", record.line, record.offset, record.length);
+    }
     Ok(())
 }
