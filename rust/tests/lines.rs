@@ -155,7 +155,7 @@ fn keeps_what_was_emitted() {
 /// kinds are.
 #[test]
 fn closes() {
-    let closed: [(&[u8], i64); 9] = [
+    let closed: [(&[u8], i64); 12] = [
         (&[3, 4, 3, 6], 6),
         (&[3, 4, 3, 0], 0),
         (&[3, 4, 11, 6], 6),
@@ -164,11 +164,14 @@ fn closes() {
         (&[3, 4, 1, 10, 3, 0], 6),
         (&[3, 4, 2, 6, 3, 0], 6),
         (&[3, 4, 2, 10, 1, 0, 3, 0], 6),
+        (&[8, 0, 3, 4, 3, 6], 6),
         (&[8, 0, 3, 4, 8, 1, 3, 6], 6),
+        (&[8, 1, 3, 4, 8, 0, 3, 6], 6),
+        (&[8, 7, 3, 4, 8, 8, 3, 6], 6),
     ];
     for (bytes, length) in closed {
         let records = ran(bytes).unwrap();
-        assert_eq!(records.iter().map(|record| record[1]).next(), Some(length), "{bytes:?}");
+        assert_eq!((records.len(), records[0][1]), (2, length), "{bytes:?}");
     }
     assert_eq!(ran(&[3, 1, 3, 2, 3, 3]), Ok(vec![plain(1, 2), plain(3, 3), plain(6, NONE)]));
 }
