@@ -1,6 +1,6 @@
 //! Measures ours, through the crate `trovespan`, and pdb's own code, on the same inputs in one process.
-//! What pdb cannot do is measured alone, or beside a plain copy. This is built into the oracle of `tests/differential`, which has
-//! pdb's code; `bench/run` builds and runs it.
+//! What pdb cannot do is measured alone, beside a plain copy, or beside a reckoning in Rust. This is built into the oracle
+//! of `tests/differential`, which has pdb's code; `bench/run` builds and runs it.
 //!
 //! Time is the processor time of the thread. Both have the file in memory. Ours answers into lent stores,
 //! which are cleared before each run, except where a case says otherwise. pdb's time includes allocating
@@ -8,6 +8,7 @@
 
 mod cases;
 mod inputs;
+mod reckoning;
 mod timing;
 
 use std::io::{self, Write};
@@ -51,8 +52,8 @@ fn both(case: &Case, stores: &mut Stores) -> (Runs, Option<Runs>) {
     (runs.next().expect("ours is measured"), runs.next())
 }
 
-/// Writes `NAME ratio R (ours X, theirs Y)`, with `a copy` for `theirs` if it is one, or `NAME ours X` if there
-/// is no other side.
+/// Writes `NAME ratio R (ours X, theirs Y)`, with `a copy` or `a reckoning` for `theirs` if it is one, or
+/// `NAME ours X` if there is no other side.
 fn write_speed(
     out: &mut impl Write,
     case: &Case,

@@ -4,12 +4,13 @@ use std::cell::RefCell;
 use std::io::{self, Cursor};
 use std::rc::Rc;
 
-use trovespan::{Step, ENTRIES_EACH, RECORD_ENTRIES};
+use trovespan::{Step, ENTRIES_EACH, LINE_ENTRIES, RECORD_ENTRIES};
 
 use super::inputs::{
-    annotations, in_long_slices, in_single_pages, of_streams, records, streams, LONGEST_STREAM,
-    MOST_ANNOTATIONS, PAGE,
+    annotations, in_long_slices, in_single_pages, line_program, of_streams, records, streams,
+    LONGEST_STREAM, MOST_ANNOTATIONS, PAGE,
 };
+use super::reckoning;
 use super::timing::{Call, Stores, REFUSED};
 use crate::annotations::triple;
 use crate::msf::{open_msf, Msf};
@@ -30,6 +31,8 @@ pub enum Beside {
     Pdb(Box<Call>),
     /// pdb has nothing that does this, but memory has a speed.
     Copy(Box<Call>),
+    /// pdb has nothing that does this by our rules. Plain Rust does, over pdb's iterator.
+    Reckoning(Box<Call>),
     /// pdb has nothing that does this.
     Nothing,
 }
@@ -37,7 +40,7 @@ pub enum Beside {
 impl Beside {
     pub fn call(&self) -> Option<&Call> {
         match self {
-            Beside::Pdb(call) | Beside::Copy(call) => Some(call),
+            Beside::Pdb(call) | Beside::Copy(call) | Beside::Reckoning(call) => Some(call),
             Beside::Nothing => None,
         }
     }
@@ -45,6 +48,7 @@ impl Beside {
     pub fn name(&self) -> &'static str {
         match self {
             Beside::Copy(_) => "a copy",
+            Beside::Reckoning(_) => "a reckoning",
             _ => "theirs",
         }
     }
@@ -70,6 +74,7 @@ pub fn cases(halves: usize) -> Vec<Case> {
         all_streams(of_streams(2000 * halves), 2000 * halves as u32),
         steps(annotations),
         decoding(annotations),
+        lines(line_program(MOST_ANNOTATIONS * halves)),
         writing(annotations),
         packing(length),
     ]
@@ -261,6 +266,31 @@ fn written(bytes: &'static [u8], stores: &mut Stores) -> u64 {
         count += 1;
     }
     count
+}
+
+/// From a line program to its line records in a lent store, eight entries each. Both sides write nothing before
+/// they have judged all, in two passes over the annotations.
+fn lines(bytes: &'static [u8]) -> Case {
+    Case {
+        name: "lines",
+        bytes: Some(bytes.len()),
+        ours: Box::new(move |stores| {
+            let ran = trovespan::run_lines(bytes, &mut stores.lines);
+            ran.map_or(REFUSED, |count| figure_of_lines(&stores.lines, count))
+        }),
+        beside: Beside::Reckoning(Box::new(move |stores| {
+            let ran = reckoning::run_lines(bytes, &mut stores.lines);
+            ran.map_or(REFUSED, |count| figure_of_lines(&stores.lines, count))
+        })),
+    }
+}
+
+/// The number of records, and the entries of every thousandth, each in its place.
+fn figure_of_lines(store: &[i64], count: usize) -> u64 {
+    let records = store.chunks_exact(LINE_ENTRIES).take(count).step_by(1000);
+    let entries = records.flat_map(|record| record.iter().zip(1..));
+    let sum: i64 = entries.map(|(entry, place)| entry * place).sum();
+    (count as i64 + sum) as u64
 }
 
 /// All annotations again, from their records to bytes in a lent store. Ours writes nothing before it has

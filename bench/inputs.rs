@@ -1,6 +1,6 @@
-//! The inputs: containers of 4,096-byte pages, streams to be written as one, and annotations, as bytes and as
-//! records. They are the same at each run, and stay in memory until the program ends, since a view for pdb may not borrow from anything that
-//! ends earlier.
+//! The inputs: containers of 4,096-byte pages, streams to be written as one, annotations, as bytes and as records,
+//! and a line program. They are the same at each run, and stay in memory until the program ends, since a view for
+//! pdb may not borrow from anything that ends earlier.
 
 use trovespan::{ENTRIES_EACH, RECORD_ENTRIES};
 
@@ -92,6 +92,38 @@ pub fn annotations(length: usize) -> &'static [u8] {
     Box::leak(bytes.into_boxed_slice())
 }
 
+/// `length` bytes of a line program that is accepted, and zeros after the last annotation. Most annotations are 3,
+/// 4, 6 and 11, about as often as clang emits them for the programs of `tests/real`. 1 and 2 are left out, since
+/// offsets may not fall.
+pub fn line_program(length: usize) -> &'static [u8] {
+    /// Opcode 12 has two operands.
+    const LONGEST: usize = 1 + 2 * 2;
+    let mut random = Random::new(SEED);
+    let mut bytes = Vec::with_capacity(length);
+    bytes.extend_from_slice(&[3, 0]); // a record, so that 4 may follow
+    while bytes.len() + LONGEST <= length {
+        let opcode = opcode_of_lines(&mut random);
+        bytes.push(opcode);
+        for _ in 0..if opcode == 12 { 2 } else { 1 } {
+            put_short_operand(&mut random, &mut bytes);
+        }
+    }
+    bytes.resize(length, 0);
+    Box::leak(bytes.into_boxed_slice())
+}
+
+fn opcode_of_lines(random: &mut Random) -> u8 {
+    match random.below(100) {
+        0..=26 => 3,
+        27..=51 => 6,
+        52..=72 => 4,
+        73..=90 => 11,
+        91 | 92 => 5,
+        93 | 94 => 12,
+        _ => random.pick(&[7, 8, 9, 10, 13]),
+    }
+}
+
 /// The records that the annotations decode to, as they are written.
 pub fn records(annotations: &[u8]) -> &'static [i64] {
     let mut entries = vec![0; ENTRIES_EACH * MOST_ANNOTATIONS];
@@ -99,6 +131,15 @@ pub fn records(annotations: &[u8]) -> &'static [i64] {
     let entries = entries.chunks_exact(ENTRIES_EACH).take(count);
     let records = entries.flat_map(|entries| &entries[..RECORD_ENTRIES]);
     Box::leak(records.copied().collect())
+}
+
+/// One byte, or two, so that the offsets of all records fit 32 bits.
+fn put_short_operand(random: &mut Random, bytes: &mut Vec<u8>) {
+    let value = random.next() as u16;
+    match random.below(10) {
+        0..=8 => bytes.push(value as u8 & 0x7f),
+        _ => bytes.extend_from_slice(&(0x8000 | value & 0x3fff).to_be_bytes()),
+    }
 }
 
 fn put_operand(random: &mut Random, bytes: &mut Vec<u8>) {

@@ -1,6 +1,6 @@
 //! Measures how much processor time calls take. On a shared machine the time on the wall would be noise.
 
-use trovespan::ENTRIES_EACH;
+use trovespan::{ENTRIES_EACH, LINE_ENTRIES};
 
 use super::inputs::{LONGEST_FILE, LONGEST_STREAM, MOST_ANNOTATIONS, PAGE};
 
@@ -18,6 +18,7 @@ pub struct Stores {
     pub sizes: Vec<u64>,
     pub bytes: Vec<u8>,
     pub entries: Vec<i64>,
+    pub lines: Vec<i64>,
 }
 
 /// A call returns a figure that is the same for both sides of a case. The compiler cannot see which call
@@ -31,10 +32,12 @@ impl Stores {
             sizes: vec![0; LONGEST_STREAM / PAGE],
             bytes: vec![0; LONGEST_FILE],
             entries: vec![0; ENTRIES_EACH * MOST_ANNOTATIONS],
+            lines: vec![0; LINE_ENTRIES * MOST_ANNOTATIONS],
         }
     }
 
     fn clear(&mut self) {
+        self.lines.fill(0);
         self.offsets.fill(0);
         self.sizes.fill(0);
         self.bytes.fill(0);
