@@ -166,10 +166,10 @@ uint32_t trovespan_decode(const uint8_t *bytes, size_t bytes_len, int64_t *store
  * have none.
  *
  * Refuses with the first refusal met, annotation after annotation: that of a step, and then `place` is the place after
- * it; or 25, if the offset of an emitted record takes more than 32 bits, or is below that of the record before it,
- * which has no length yet; if the line or the end column leaves 64 bits; or if 4 comes before any record. If none is
- * met, refuses with 10 if the store has fewer than eight entries for each record. But for the refusal of a step,
- * `place` is 0.
+ * it; or 25, if the offset of an emitted record takes more than 32 bits, or is below that of the record before it while
+ * that has no length; if the line or the end column leaves 64 bits; or if 4 comes before any record. If none is met,
+ * refuses with 10 if the store has fewer than eight entries for each record. But for the refusal of a step, `place` is
+ * 0.
  */
 uint32_t trovespan_run_lines(const uint8_t *bytes, size_t bytes_len, int64_t *store, size_t store_len, uint64_t *value,
                              uint64_t *place);

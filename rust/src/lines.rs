@@ -8,8 +8,8 @@ use core::slice::ChunksExact;
 pub const LINE_ENTRIES: usize = 8;
 
 /// Runs the line program of an inlined function. Writes its line records to the front of `store`, [`LINE_ENTRIES`]
-/// entries each, in the order of the fields of [`LineRecord`], with -1 for a length that there is none of. Returns how
-/// many records there are. [`line_records`] reads them.
+/// entries each, in the order of the fields of [`LineRecord`], where -1 stands for no length. Returns how many records
+/// there are. [`line_records`] reads them.
 ///
 /// At the start the code offset, its base, the file, the line and both columns are 0, the line count and the kind 1.
 /// Each annotation changes these as [`BinaryAnnotation`] says. Those that emit a record then emit it with what these
@@ -23,7 +23,7 @@ pub const LINE_ENTRIES: usize = 8;
 /// Refuses with the first refusal met, annotation after annotation: with 7, 8 or 9 as [`decode`] does, and with 25 and
 /// the annotation's index, from 0, if
 ///
-/// - a record's offset takes more than 32 bits, or is below that of the record before it, which has no length yet;
+/// - a record's offset takes more than 32 bits, or is below that of the record before it while that has no length;
 /// - the line or the end column leaves 64 bits;
 /// - it sets the length of the record before it, and there is none.
 ///

@@ -158,9 +158,9 @@ fn more_than_65536_lines() {
     let mut bytes = [11, 0x21].repeat(count); // a byte and a line on
     let mut store = vec![0; LINE_ENTRIES * count];
     assert_eq!(run_lines(&bytes, &mut store), Ok(count));
-    let records = line_records(&store).flatten().map(|record| (record.offset, record.length, record.line));
-    assert!(records.clone().take(count - 1).eq((1..count as u32).map(|at| (at, Some(1), at.into()))));
-    assert_eq!(records.last(), Some((count as u32, None, count as i64)));
+    let mut records = line_records(&store).flatten().map(|record| (record.offset, record.length, record.line));
+    assert_eq!(records.next_back(), Some((count as u32, None, count as i64)));
+    assert!(records.eq((1..count as u32).map(|at| (at, Some(1), at.into()))));
 
     let no_room = Refusal { number: 10, value: (LINE_ENTRIES * count) as u64 };
     let short = &mut store[1..];
