@@ -1,6 +1,6 @@
 //! Measures ours, through the crate `trovespan`, and pdb's own code, on the same inputs in one process.
-//! What pdb cannot do is measured alone, beside a plain copy, or beside a reckoning in Rust. This is built into the oracle
-//! of `tests/differential`, which has pdb's code; `bench/run` builds and runs it.
+//! What pdb cannot do is measured alone, beside a plain copy, or beside a reckoning in Rust. This is built into
+//! the oracle of `tests/differential`, which has pdb's code; `bench/run` builds and runs it.
 //!
 //! Time is the processor time of the thread. Both have the file in memory. Ours answers into lent stores,
 //! which are cleared before each run, except where a case says otherwise. pdb's time includes allocating

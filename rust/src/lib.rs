@@ -5,8 +5,8 @@
 //! - Below these, [`open`], [`stream_count`], [`map`] and [`extract`] read a container into stores that the caller
 //!   lends, and [`number`], [`step`] and [`decode`] read annotations as numbers, and say whether these have their
 //!   shortest form.
-//! - [`run_lines`] runs the line program of annotations into such a store, and [`line_records`] reads its line records.
 //! - [`write_container`] and [`write_annotations`] write them, into stores that the caller lends.
+//! - [`run_lines`] runs annotations as a line program, into such a store, and [`line_records`] reads its line records.
 //!
 //! Every function returns for any input.
 //!

@@ -71,7 +71,7 @@ fn starts() {
     assert_eq!(ran(&[3, 0]), Ok(vec![plain(0, NONE)]));
 }
 
-/// Each annotation that emits nothing changes one entry of the record after it, or none.
+/// Each annotation that emits nothing, but for 4, changes one entry of the record after it.
 #[test]
 fn sets_and_advances() {
     let changed: [(&[u8], Entries); 12] = [
@@ -226,7 +226,7 @@ fn refuses_a_length_before_any_record() {
 /// Where eight advances by the largest operand lead, 7 below the largest offset.
 const FAR: i64 = 8 * LARGEST;
 
-/// The last record of a program that begins with these advances, each of which emits a record.
+/// The last record of a program that begins with these eight advances, each of which emits a record.
 fn last_after_far(end: &[u8]) -> Result<Option<Entries>, DecodeRefusal> {
     let advances = [&[3][..], &LARGEST_BYTES].concat().repeat(8);
     ran(&[&advances, end].concat()).map(|mut records| records.pop())

@@ -171,7 +171,7 @@ static void decode(void) {
     CHECK(memcmp(store, wanted, sizeof wanted) == 0 && untouched(store + 8, 8));
 }
 
-/* A program with each opcode: its records, and the room for them. Then one whose offsets fall where no length is due. */
+/* A program with each opcode, and the room for its records. Then one whose offset falls where no length is due. */
 static void run_lines(void) {
     static const uint8_t bytes[] = {1, 16, 2, 100, 5, 24, 6, 15, 7, 2, 8, 0, 9, 4, 13, 9, 10, 22, 3, 5,
                                     11, 0x72, 12, 6, 7, 3, 1, 4, 3, 0, 14};
