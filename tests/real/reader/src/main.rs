@@ -4,12 +4,18 @@
 //!
 //! `reader rewrite OUT FILE...` writes a copy of each file to OUT, with the annotations of every site written again.
 //!
-//! Both then print the totals as `NAME COUNT` lines. They skip nothing: they stop at what they cannot read.
+//! `reader lines LLVM FILE...` runs the line program of every site, and holds the records against what llvm-pdbutil
+//! printed, which is in `sites` in a folder of the file's name below LLVM.
+//!
+//! Each then prints the totals as `NAME COUNT` lines. They skip nothing: they stop at what they cannot read.
 
 mod annotations;
 mod bytes;
 mod container;
+mod forecast;
+mod lines;
 mod modules;
+mod printed;
 mod rewrite;
 mod sites;
 mod totals;
@@ -19,6 +25,7 @@ use std::process::exit;
 use std::{env, fs};
 
 use container::Container;
+use lines::Compared;
 use rewrite::Saving;
 use totals::Totals;
 
@@ -28,16 +35,17 @@ fn main() {
     let text = match words.as_slice() {
         ["read", out, files @ ..] => each(out, files, read).text(),
         ["rewrite", out, files @ ..] => each(out, files, rewrite).text(),
-        _ => stop("usage: reader read|rewrite OUT FILE..."),
+        ["lines", llvm, files @ ..] => each(llvm, files, lines).text(),
+        _ => stop("usage: reader read|rewrite OUT FILE..., or reader lines LLVM FILE..."),
     };
     print!("{text}");
 }
 
 /// The totals over all files.
-fn each<T: Default>(out: &str, files: &[&str], answer: fn(&Path, &Path, &mut T) -> Result<(), String>) -> T {
+fn each<T: Default>(folder: &str, files: &[&str], answer: fn(&Path, &Path, &mut T) -> Result<(), String>) -> T {
     let mut totals = T::default();
     for file in files {
-        if let Err(why) = answer(Path::new(out), Path::new(file), &mut totals) {
+        if let Err(why) = answer(Path::new(folder), Path::new(file), &mut totals) {
             stop(&format!("{file}: {why}"));
         }
     }
@@ -66,6 +74,12 @@ fn rewrite(out: &Path, file: &Path, saving: &mut Saving) -> Result<(), String> {
     let name = file.file_name().ok_or("a file with no name")?;
     let copy = rewrite::shortened(&fs::read(file).map_err(told)?, saving)?;
     fs::write(out.join(name), copy).map_err(told)
+}
+
+fn lines(llvm: &Path, file: &Path, compared: &mut Compared) -> Result<(), String> {
+    let name = file.file_stem().ok_or("a file with no name")?;
+    let printed = fs::read_to_string(llvm.join(name).join("sites")).map_err(told)?;
+    lines::compare(&fs::read(file).map_err(told)?, &printed, compared)
 }
 
 fn told(why: std::io::Error) -> String {

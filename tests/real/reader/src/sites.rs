@@ -30,6 +30,11 @@ pub struct Site {
 }
 
 impl Site {
+    /// Where it is in the stream.
+    pub fn at(&self) -> usize {
+        self.record.start
+    }
+
     /// Where its annotations are in the stream, to the end of the record.
     pub fn annotations(&self) -> Range<usize> {
         self.record.start + ANNOTATIONS..self.record.end
