@@ -93,6 +93,7 @@ first:
 	site	3, 5, 4, 3, 4, 7, 11, 0x22	# twice: the second length stays, and ahead by both
 	site	12, 3, 5, 12, 4, 2, 3, 1	# 12: its own length stays, and nothing is ahead
 	site	12, 3, 5, 4, 7, 3, 1		# unless 4 sets another
+	site	3, 5, 8, 0, 4, 3, 3, 2		# whatever the kind is by then
 	site	3, 5, 3, 0, 11, 0x20, 12, 0, 0	# lengths of 0
 	site	1, 100, 12, 5, 0, 1, 0, 3, 0	# falls after 12
 	site	3, 9, 4, 2, 1, 3, 3, 1		# falls after 4
@@ -108,7 +109,7 @@ first:
 	over	12, 9, 8			# and if a length is set
 	over	4, 1, 2, 7, 3, 0		# the base: 0xffffffff
 	over	4, 1, 2, 8, 3, 0		# and one more: refused
-	site	6, 3, 3, 5, 6, 6, 11, 0x51	# lines -1, 2 and 0
+	site	6, 3, 3, 5, 6, 6, 11, 0x51	# lines -1 and 0
 	site	5, 8, 3, 5, 5, 1, 3, 2		# files
 	site	7, 3, 3, 5, 7, 0, 3, 2		# line counts
 	site	8, 0, 3, 5, 8, 1, 3, 2, 8, 2, 3, 1, 8, 0, 12, 4, 1	# kinds

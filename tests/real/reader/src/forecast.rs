@@ -1,7 +1,7 @@
 //! How the records of a site must differ from llvm-pdbutil's, by its annotations alone.
 //!
-//! llvm-pdbutil keeps one code offset. It adds the operands of 1, 2 and 4 to it, and refuses nothing. So each 1 takes its
-//! offset ahead of ours by our code offset before it, each 2 by our base before it, and each 4 by its length.
+//! llvm-pdbutil keeps one code offset. It adds the operands of 1, 2 and 4 to it, and refuses nothing. So each 1 takes
+//! its offset ahead of ours by our code offset before it, each 2 by our base before it, and each 4 by its length.
 
 use trovespan::{DecodeRefusal, Refusal, Step};
 
@@ -43,22 +43,23 @@ impl Forecast {
         forecast
     }
 
-    /// The first refusal in the bytes, which is that of a step or 25.
+    /// Stops at the first refusal in the bytes: that of a step, or 25.
     fn run(&mut self, bytes: &[u8]) -> Result<(), DecodeRefusal> {
         let mut state = State::default();
-        let mut at = 0;
-        for index in 0.. {
+        let (mut at, mut index) = (0, 0);
+        loop {
             let (step, next) = trovespan::step(bytes, at);
-            match step {
-                Step::Annotation { opcode, first, second, .. } => self
-                    .turn(&mut state, opcode, first as u64, second as u64)
-                    .map_err(|Bad| DecodeRefusal { refusal: Refusal { number: BAD_LINE, value: index }, place: None })?,
-                Step::End => break,
+            let turned = match step {
+                Step::Annotation { opcode, first, second, .. } => {
+                    self.turn(&mut state, opcode, first as u64, second as u64)
+                }
+                Step::End => return Ok(()),
                 Step::Refused(refusal) => return Err(DecodeRefusal { refusal, place: Some(next) }),
-            }
-            at = next;
+            };
+            let bad_line = Refusal { number: BAD_LINE, value: index };
+            turned.map_err(|Bad| DecodeRefusal { refusal: bad_line, place: None })?;
+            (at, index) = (next, index + 1);
         }
-        Ok(())
     }
 
     fn turn(&mut self, state: &mut State, opcode: u32, first: u64, second: u64) -> Result<(), Bad> {

@@ -1,5 +1,5 @@
-//! The line records of every site, by `run_lines`, held against what llvm-pdbutil printed of the site. The records must be
-//! the same, but for the differences that are forecast; and those must be there.
+//! The line records of every site, by `run_lines`, held against what llvm-pdbutil printed of the site. The records must
+//! be the same, but for the differences that are forecast; and those must be there.
 
 use trovespan::{DecodeRefusal, LineRecord, LINE_ENTRIES};
 
@@ -31,16 +31,8 @@ pub struct Compared {
     others: [usize; 5],
 }
 
-const START: LineRecord = LineRecord {
-    offset: 0,
-    length: None,
-    file: 0,
-    line: 0,
-    line_count: 1,
-    kind: 1,
-    start_column: 0,
-    end_column: 0,
-};
+const START: LineRecord =
+    LineRecord { offset: 0, length: None, file: 0, line: 0, line_count: 1, kind: 1, start_column: 0, end_column: 0 };
 
 pub fn compare(file: &[u8], printed: &str, totals: &mut Compared) -> Result<(), String> {
     let streams = Container::open(file)?.streams()?;
@@ -64,7 +56,7 @@ fn compare_site(bytes: &[u8], printed: &[printed::Annotation], totals: &mut Comp
         totals.with[which] += usize::from(printed.iter().any(|annotation| annotation.opcode == *opcode));
     }
     match (run(bytes), forecast.refused) {
-        (Ok(records), None) => compare_records(&records, printed, &forecast, totals),
+        (Ok(Some(records)), None) => compare_records(&records, printed, &forecast, totals),
         (Err(why), Some(refused)) if why == refused => {
             totals.refused += 1;
             Ok(())
@@ -73,12 +65,12 @@ fn compare_site(bytes: &[u8], printed: &[printed::Annotation], totals: &mut Comp
     }
 }
 
-fn run(bytes: &[u8]) -> Result<Vec<LineRecord>, DecodeRefusal> {
-    // An annotation takes at least two bytes, and emits one record.
+/// `None` if the entries of a record make none.
+fn run(bytes: &[u8]) -> Result<Option<Vec<LineRecord>>, DecodeRefusal> {
+    // An annotation takes at least two bytes, and emits at most one record.
     let mut store = vec![0; bytes.len() / 2 * LINE_ENTRIES];
     let count = trovespan::run_lines(bytes, &mut store)?;
-    let records = trovespan::line_records(&store[..count * LINE_ENTRIES]);
-    Ok(records.map(|record| record.expect("entries that make no record")).collect())
+    Ok(trovespan::line_records(&store[..count * LINE_ENTRIES]).collect())
 }
 
 /// They must differ from what LLVM's words make exactly if that is forecast, and then only by what LLVM is ahead.

@@ -1,4 +1,5 @@
-//! What llvm-pdbutil printed of each inline site, read from the `sites` that `run` keeps of it. None of this is by the crate.
+//! What llvm-pdbutil printed of each inline site, read from the `sites` that `run` keeps of it. The crate has no part in
+//! this.
 
 /// A site: where it is in its module's symbols, and its annotations.
 pub struct Site {
@@ -46,7 +47,7 @@ fn annotation(line: &str) -> Option<Annotation> {
     while !words.is_empty() {
         words = annotation.take(words)?;
     }
-    Some(annotation)
+    annotation.is_whole().then_some(annotation)
 }
 
 /// The first of the numbers, whichever of its forms it has.
@@ -60,6 +61,21 @@ fn hex(digits: &str) -> Option<u32> {
 }
 
 impl Annotation {
+    /// Whether the words are those that its opcode has.
+    fn is_whole(&self) -> bool {
+        let found = [self.code.is_some(), self.line.is_some(), self.length.is_some(), self.operand.is_some()];
+        let wanted = match self.opcode {
+            0 => [false; 4],
+            1 | 2 | 3 => [true, false, false, false],
+            4 => [false, false, true, false],
+            6 => [false, true, false, false],
+            11 => [true, true, false, false],
+            12 => [true, false, true, false],
+            _ => [false, false, false, true],
+        };
+        found == wanted
+    }
+
     /// Takes the first words, and returns the rest. llvm-pdbutil prints `0x1` after every file.
     fn take<'a>(&mut self, words: &'a [&'a str]) -> Option<&'a [&'a str]> {
         match words {
