@@ -65,7 +65,7 @@ unfoldable pub emissionOnLine : MaybeLine → Position → ℕ → ℤ → OrBad
 emissionOnLine last p v by =
     summed (p .line) by >>= λ z. emission last (withCode (withLine p z) (p .code + v)) length.None
 
--- the thirteen opcodes in order, by their operands. (The decoder answers no other.)
+-- the opcodes in order, by their operands. (The decoder answers 1 to 13 and no other.)
 unfoldable pub turning : State → Triple → OrBad After
 turning s t =
     let p : Position = s .at in
@@ -73,7 +73,8 @@ turning s t =
     let v : ℕ = natAbs (t .first) in
     let w : ℕ = natAbs (t .second) in
     getD
-    (after (withCode p v) last maybe.None
+    (refused tt
+    ∷ after (withCode p v) last maybe.None
     ∷ after (withBase p v) last maybe.None
     ∷ emission last (withCode p (p .code + v)) length.None
     ∷ lengthening p last v
@@ -87,4 +88,4 @@ turning s t =
     ∷ emission last (withCode p (p .code + w)) (length.Bytes v)
     ∷ after (withEnd p (pos v)) last maybe.None
     ∷ [])
-    (t .opcode - 1) (refused tt)
+    (t .opcode) (refused tt)

@@ -7,12 +7,12 @@ use crate::state::Position;
 use crate::state::State;
 use crate::sum::Sum;
 use crate::sum::advanced;
-use annotations::BinaryAnnotation;
+use annotations::decode_signed_operand;
 use annotations::long;
 use annotations::wide;
 ghost use mathlib.Core.Path.{_≡_};
 ghost use Prim.Native.Nat.{_+_, _<_, _^_};
-ghost use Rattle.annotations.specs.Annotation.{tripleIn};
+ghost use Rattle.annotations.specs.Annotation.{annotationOf};
 ghost use Rattle.line_state.specs.State.{offsetOf, withCode};
 ghost use Rattle.line_state.specs.Turn.{after, emission, lengthening, advancingLine, advancingEnd, emissionOnLine, turning};
 ghost use Rattle.line_state.specs.Inner.{closing, turnedIn};
@@ -33,28 +33,41 @@ pub enum Turned {
     Bad,
 }
 
-// Takes one annotation. The opcodes are in order.
-pub fn turn(s: State, a: BinaryAnnotation) -> Turned
-    ensures { λ r. ⌜ turnedIn r ≡ turning s (tripleIn a) ⌝ }
+// Takes one annotation, by its opcode and its operands. Only 12 has the second one, w.
+pub fn turn(s: State, opcode: u32, v: u32, w: u32) -> Turned
+    ensures { λ r. ⌜ turnedIn r ≡ turning s (annotationOf opcode v w) ⌝ }
 {
     let at = s.at;
     let last = s.last;
-    match a {
-        BinaryAnnotation::CodeOffset(v) => on(at.with_code(v), last),
-        BinaryAnnotation::ChangeCodeOffsetBase(v) => on(at.with_base(v), last),
-        BinaryAnnotation::ChangeCodeOffset(v) => emit(last, at, v, Length::None),
-        BinaryAnnotation::ChangeCodeLength(v) => set_length(at, last, v),
-        BinaryAnnotation::ChangeFile(f) => on(at.with_file(f.0), last),
-        BinaryAnnotation::ChangeLineOffset(z) => advance_line(at, last, z),
-        BinaryAnnotation::ChangeLineEndDelta(v) => on(at.with_count(v), last),
-        BinaryAnnotation::ChangeRangeKind(v) => on(at.with_kind(v), last),
-        BinaryAnnotation::ChangeColumnStart(v) => on(at.with_start(v), last),
-        BinaryAnnotation::ChangeColumnEndDelta(z) => advance_end(at, last, z),
-        BinaryAnnotation::ChangeCodeOffsetAndLineOffset(v, z) => emit_on_line(last, at, v, z),
-        BinaryAnnotation::ChangeCodeLengthAndCodeOffset(v, w) => {
-            emit(last, at, w, Length::Bytes(v))
-        }
-        BinaryAnnotation::ChangeColumnEnd(v) => on(at.with_end(wide(v)), last),
+    match opcode {
+        // CodeOffset
+        1 => on(at.with_code(v), last),
+        // ChangeCodeOffsetBase
+        2 => on(at.with_base(v), last),
+        // ChangeCodeOffset
+        3 => emit(last, at, v, Length::None),
+        // ChangeCodeLength
+        4 => set_length(at, last, v),
+        // ChangeFile
+        5 => on(at.with_file(v), last),
+        // ChangeLineOffset
+        6 => advance_line(at, last, decode_signed_operand(v)),
+        // ChangeLineEndDelta
+        7 => on(at.with_count(v), last),
+        // ChangeRangeKind
+        8 => on(at.with_kind(v), last),
+        // ChangeColumnStart
+        9 => on(at.with_start(v), last),
+        // ChangeColumnEndDelta
+        10 => advance_end(at, last, decode_signed_operand(v)),
+        // ChangeCodeOffsetAndLineOffset
+        11 => emit_on_line(last, at, v % 16, decode_signed_operand(v / 16)),
+        // ChangeCodeLengthAndCodeOffset
+        12 => emit(last, at, w, Length::Bytes(v)),
+        // ChangeColumnEnd
+        13 => on(at.with_end(wide(v)), last),
+        // The decoder answers no other.
+        _ => Turned::Bad,
     }
 }
 

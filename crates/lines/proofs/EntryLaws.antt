@@ -1,7 +1,7 @@
 -- A record in the store: eight entries at consecutive places, each read back from its bits.
 use mathlib.Core.Path.{_≡_, refl, _∙_, ap}
 use mathlib.Core.List.{List, [], _∷_, _++_}
-use Prim.Native.Nat.{ℕ, suc, _+_, _*_, _^_, _≤_, _<_}
+use Prim.Native.Nat.{ℕ, suc, _+_, _*_, _/_, _^_, _≤_, _<_}
 use native.Mathlib.Omega.{arith}
 use native.Mathlib.Numerals.{add-one, add-two}
 use lib.ListN.{length, set, length-append}
@@ -12,14 +12,14 @@ use mir.Syntax.{w64}
 use mir.Val.{toZ, ofZ}
 use mir.Facts.{toZ-pos}
 use Rattle.annotations.proofs.AnnotationLaws.{stored}
-use Rattle.store.specs.Putting.{Putting}
 use Rattle.line_state.specs.State.{offsetOf}
 use Rattle.line_state.specs.declared.state.Length.{Length}
 use Rattle.line_state.specs.declared.state.Length.the-variants as length
 use Rattle.line_state.specs.declared.state.Line.{Line}
 use Rattle.line_state.specs.declared.state.MaybeLine.{MaybeLine}
 use Rattle.line_state.specs.declared.state.MaybeLine.the-variants as maybe
-use Rattle.lines.specs.Lines.{listed, entriesEach, lengthEntry, lineEntries, entries}
+use Rattle.lines.specs.Lines.{listed, lengthEntry, lineEntries, entries}
+use Rattle.lines.specs.Inner.{Appending}
 
 abbrev kept : ℤ → ℤ
 kept z = toZ w64 (ofZ w64 z)
@@ -46,20 +46,17 @@ module _ (st : List ℤ) (at : ℕ) (l : Line) where
       rw (toZ-pos w64 om, oi, stored {z = e} em, ei, stored {z = f} fm, fi, stored {z = l .at .line} lm, stored {z = c} cm, ci, stored {z = k} km, ki, stored {z = s} sm, si, stored {z = l .at .end} dm, add-one, add-two, three, four, five, six, seven)
 
 -- ---- `put`
-module _ (st : List ℤ) (at : ℕ) {m : MaybeLine} (room : at + entriesEach * length (listed m) ≤ length st) where
-  pub put-none : m ≡ maybe.None → Putting (entries (listed m)) st at st at
+module _ (st : List ℤ) (n : ℕ) {m : MaybeLine} where
+  pub put-none : m ≡ maybe.None → Appending (listed m) st n st n
   unfolding entries
-  put-none e = rw e (record { store = refl; place = omega arith; within = omega arith })
+  put-none e = rw e (record { many = omega arith; same = refl; store = λ _. refl })
 
   module _ {l : Line} (e : m ≡ maybe.Some l) where
-    pub put-room : at + entriesEach ≤ length st
-    put-room = let h : at + entriesEach * 1 ≤ length st = rw e at room in omega arith
+    pub put-full : length st / 8 ≤ n → Appending (listed m) st n st (n + 1)
+    put-full h = rw e (record { many = refl; same = refl; store = λ k. absurd (omega arith) })
 
-    pub put-one : {st′ : List ℤ} → st′ ≡ sets st at (lineEntries l) → Putting (entries (listed m)) st at st′ (at + 8)
+    pub put-one : {st′ : List ℤ} → st′ ≡ sets st (8 * n) (lineEntries l) → Appending (listed m) st n st′ (n + 1)
     unfolding entries
-    put-one {st′} f =
-        let h = put-room in
-        let k : length st′ ≡ length st = ap length f ∙ simp length-sets in
-        rw e (record { store = f; place = refl; within = omega arith })
+    put-one f = rw e (record { many = refl; same = ap length f ∙ simp length-sets; store = λ _. f })
 
-pub ruleset put-cases = (put-none, put-room, put-one)
+pub ruleset put-cases = (put-none, put-full, put-one)

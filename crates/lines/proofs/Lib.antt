@@ -1,4 +1,4 @@
 pub mod EntryLaws
 pub mod ProgramLaws
-pub mod LoopLaws
+pub mod PassLaws
 pub mod RanLaws

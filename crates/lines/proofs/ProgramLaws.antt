@@ -19,6 +19,10 @@ use Rattle.line_state.specs.declared.turns.After.{After}
 use Rattle.lines.specs.Lines.{listed, program, badLine, linesFrom, lineEntries, entries, entriesEach, howMany}
 
 -- ---- lists of records
+pub listed-few : (m : MaybeLine) → length (listed m) ≤ 1
+listed-few maybe.None = omega arith
+listed-few (maybe.Some l) = omega arith
+
 pub entries-append : (l m : List Line) → entries (l ++ m) ≡ entries l ++ entries m
 unfolding entries
 entries-append [] m = refl
@@ -35,6 +39,11 @@ before l o = o >>= λ m. ok (l ++ m)
 
 abbrev pub plus : ℕ → Outcome DecodeStop ℕ → Outcome DecodeStop ℕ
 plus n o = o >>= λ m. ok (n + m)
+
+pub plus-none : (o : Outcome DecodeStop ℕ) → o ≡ plus 0 o
+unfolding _>>=_
+plus-none (ok m) = ap ok (omega arith)
+plus-none (refused why) = refl
 
 pub how-many-before : (l : List Line) (o : Outcome DecodeStop (List Line)) → howMany (before l o) ≡ plus (length l) (howMany o)
 unfolding _>>=_

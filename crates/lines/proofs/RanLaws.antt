@@ -13,7 +13,7 @@ use Rattle.decode.specs.Decode.{DecodeStop}
 use Rattle.line_state.specs.declared.state.Line.{Line}
 use Rattle.lines.specs.Lines.{entriesEach, entries, needed, running, howMany}
 use Rattle.lines.specs.Promises.{Running}
-use Rattle.lines.specs.Inner.{countedIn, allLines, Counting, Accepted}
+use Rattle.lines.specs.Inner.{countedIn, allLines, Accepted, Passing}
 use Rattle.lines.specs.declared.refusal.Refusal.{Refusal}
 use Rattle.lines.specs.declared.refusal.Refusal.the-variants.{NoRoom}
 use Rattle.lines.specs.declared.run.Counted.{Counted}
@@ -31,7 +31,7 @@ unfolding _>>=_
 counts (ok l) e = (l, (refl, ok-is (sym e)))
 counts (refused w) e = absurd (ok-refused (sym e))
 
-module _ (s : List ℕ) (store : List ℤ) (c : Counted) (p : Counting s c) where
+module _ (s : List ℕ) (store : List ℤ) (c : Counted) {none none′ : List ℤ} (p : Passing s none c none′) where
   pub run-refused : {why : Refusal} → c ≡ counted.Refused why → Running s store (ran.Refused why) store
   unfolding running written _>>=_
   run-refused e =
@@ -50,14 +50,14 @@ module _ (s : List ℕ) (store : List ℤ) (c : Counted) (p : Counting s c) wher
         record { answer = rw (all .1 .0, t, g ∙ ap needed m); after = rw (all .1 .0, t) }
 
     module _ (h : n ≤ length store / 8) where
-      pub run-accepted : Accepted s (length store)
-      run-accepted = let m = all .1 .1 in record { lines = all .0; is = all .1 .0; fits = omega arith }
+      accepted : Accepted s (length store)
+      accepted = let m = all .1 .1 in record { lines = all .0; is = all .1 .0; fits = omega arith }
 
-      pub run-counted : {store′ : List ℤ} → store′ ≡ written (allLines s) entries store → Running s store (ran.Count n) store′
+      pub run-counted : (d : Counted) {store′ : List ℤ} → Passing s store d store′ → Running s store (ran.Count n) store′
       unfolding running written _>>=_ _>>_ require
-      run-counted f =
+      run-counted d q =
           let m = all .1 .1 in
           let t = le-leb (entriesEach * length (all .0)) (length store) (omega arith) in
-          record { answer = rw (all .1 .0, t) (ap ok m); after = f ∙ rw (all .1 .0, t) }
+          record { answer = rw (all .1 .0, t) (ap ok m); after = q .after accepted ∙ rw (all .1 .0, t) }
 
-pub ruleset ran-cases = (run-refused, run-no-room, run-accepted, run-counted)
+pub ruleset ran-cases = (run-refused, run-no-room, run-counted)

@@ -1,17 +1,25 @@
 -- What inner functions promise their callers. None of it is part of an operation's own promise.
 use mathlib.Core.Path.{_≡_}
 use mathlib.Core.List.{List}
-use Prim.Native.Nat.{ℕ, _*_, _≤_}
+use Prim.Native.Nat.{ℕ, _+_, _*_, _≤_}
 use lib.ListN.{length}
+use lib.Seq.{sets}
+use lib.IntN.{ℤ}
 use Rattle.outcome.specs.Outcome.{Outcome, ok, refused}
+use Rattle.outcome.specs.Store.{written}
 use Rattle.decode.specs.Decode.{decodeAll, DecodeStop}
 use Rattle.line_state.specs.State.{start}
 use Rattle.line_state.specs.declared.state.Line.{Line}
-use Rattle.line_state.specs.declared.state.MaybeLine.{MaybeLine}
-use Rattle.lines.specs.Lines.{listed, linesFrom, entriesEach, howMany}
+use Rattle.lines.specs.Lines.{linesFrom, entriesEach, entries, howMany}
 use Rattle.lines.specs.Promises.{refusalIn}
 use Rattle.lines.specs.declared.run.Counted.{Counted}
 use Rattle.lines.specs.declared.run.Counted.the-variants.{Lines, Refused}
+
+-- records put after n others: how many there are then, and the store, if it has room for them
+pub record Appending (lines : List Line) (before : List ℤ) (n : ℕ) (after : List ℤ) (r : ℕ) : Type 0 where
+  pub many : r ≡ n + length lines
+  pub same : length after ≡ length before
+  pub store : entriesEach * (n + length lines) ≤ length before → after ≡ sets before (entriesEach * n) (entries lines)
 
 -- what the answer says on paper
 abbrev pub countedIn : Counted → Outcome DecodeStop ℕ
@@ -22,16 +30,13 @@ countedIn (Refused why) = refused (refusalIn why)
 abbrev pub allLines : List ℕ → Outcome DecodeStop (List Line)
 allLines s = linesFrom start 0 (decodeAll s)
 
-pub record Counting (s : List ℕ) (r : Counted) : Type 0 where
-  pub answer : countedIn r ≡ howMany (allLines s)
-
 -- the program is accepted, and its records have room
 pub record Accepted (s : List ℕ) (room : ℕ) : Type 0 where
   pub lines : List Line
   pub is : allLines s ≡ ok lines
   pub fits : entriesEach * length lines ≤ room
 
--- how many records these are: none or one
-pub record Held (m : MaybeLine) (n : ℕ) : Type 0 where
-  pub is : n ≡ length (listed m)
-  pub few : n ≤ 1
+-- a pass counts the records and, if they have room, writes them
+pub record Passing (s : List ℕ) (store : List ℤ) (r : Counted) (store′ : List ℤ) : Type 0 where
+  pub answer : countedIn r ≡ howMany (allLines s)
+  pub after : Accepted s (length store) → store′ ≡ written (allLines s) entries store

@@ -4,25 +4,29 @@ use line_state::Length;
 use line_state::Line;
 use line_state::MaybeLine;
 ghost use mathlib.Core.Path.{_≡_};
-ghost use Prim.Native.Nat.{_+_, _*_, _≤_};
+ghost use Prim.Native.Nat.{_+_, _^_, _≤_, _<_};
 ghost use lib.ListN.{length};
 ghost use lib.Seq.{sets};
-ghost use Rattle.store.specs.Putting.{Putting};
-ghost use Rattle.lines.specs.Lines.{listed, entriesEach, lengthEntry, lineEntries, entries};
+ghost use Rattle.lines.specs.Lines.{listed, entriesEach, lengthEntry, lineEntries};
+ghost use Rattle.lines.specs.Inner.{Appending};
 
 // How many entries of the store a record takes.
 pub const ENTRIES_EACH: usize = 8;
 
-// Writes a record, if there is one, and returns the place after it. The caller guarantees the room.
-pub(crate) fn put(store: &mut [i64], at: usize, line: MaybeLine) -> usize
-    requires { ⌜ at + entriesEach * length (listed line) ≤ length (now store) ⌝ }
-    ensures { λ r. ⌜ Putting (entries (listed line)) (now (store .entry)) at (now (store .exit)) r ⌝ }
+// Writes a record, if there is one, as record n of the store, if that has the room. Returns how many records there are
+// then.
+pub(crate) fn put(store: &mut [i64], n: usize, line: MaybeLine) -> usize
+    requires { ⌜ n < 2 ^ 63 ⌝ }
+    ensures { λ r. ⌜ Appending (listed line) (now (store .entry)) n (now (store .exit)) r ⌝ }
 {
     match line {
-        MaybeLine::None => at,
+        MaybeLine::None => n,
         MaybeLine::Some(l) => {
-            put_line(store, at, l);
-            at + ENTRIES_EACH
+            if n < store.len() / ENTRIES_EACH {
+                put_line(store, ENTRIES_EACH * n, l);
+                return n + 1;
+            }
+            n + 1
         }
     }
 }

@@ -1,20 +1,19 @@
-// Runs the annotations twice. The first pass counts the records and the second writes them, so a refusal has written
-// nothing.
+// Runs the annotations twice. The first pass has no room for a record, so it only counts them, and a refusal has written
+// nothing. The second writes them.
 use crate::entries::ENTRIES_EACH;
 use crate::entries::put;
 use crate::refusal::Refusal;
-use annotations::Step;
-use annotations::step_at;
-use line_state::MaybeLine;
+use judging::Stopped;
+use judging::judged_at;
+use judging::skip_at;
+use judging::stop_at;
 use line_state::State;
 use line_state::Turned;
 use line_state::turn;
 ghost use mathlib.Core.Path.{_≡_};
-ghost use lib.ListN.{length};
-ghost use Rattle.outcome.specs.Store.{written};
-ghost use Rattle.lines.specs.Lines.{entries, needed};
+ghost use Rattle.lines.specs.Lines.{needed};
 ghost use Rattle.lines.specs.Promises.{Running};
-ghost use Rattle.lines.specs.Inner.{allLines, Counting, Accepted, Held};
+ghost use Rattle.lines.specs.Inner.{Passing};
 
 // Of so many records, and more, 64 bits cannot say how many entries they need.
 const TOO_MANY: usize = 0x2000_0000_0000_0000;
@@ -34,86 +33,48 @@ pub(crate) enum Counted {
 pub fn run_lines(bytes: &[u8], store: &mut [i64]) -> Ran
     ensures { λ r. ⌜ Running (now (bytes .entry)) (now (store .entry)) r (now (store .exit)) ⌝ }
 {
-    match count_lines(bytes) {
+    let mut no_room = [0i64; 1];
+    match pass(bytes, &mut no_room) {
         Counted::Refused(why) => Ran::Refused(why),
         Counted::Lines(n) => {
             if store.len() / ENTRIES_EACH < n {
                 return Ran::Refused(Refusal::NoRoom(entries_needed(n)));
             }
-            write_lines(bytes, store);
+            pass(bytes, store);
             Ran::Count(n)
         }
     }
 }
 
-// Counts the records, unless an annotation is refused.
-fn count_lines(bytes: &[u8]) -> Counted
-    ensures { λ r. ⌜ Counting (now (bytes .entry)) r ⌝ }
+// Runs all annotations, unless one is refused, and counts the records. Those that have room are written.
+fn pass(bytes: &[u8], store: &mut [i64]) -> Counted
+    ensures { λ r. ⌜ Passing (now (bytes .entry)) (now (store .entry)) r (now (store .exit)) ⌝ }
 {
     let mut state = State::new();
     let mut at: usize = 0;
     let mut i: usize = 0;
     let mut n: usize = 0;
     loop {
-        match step_at(bytes, at) {
-            Step::Annotation(a) => {
-                let annotation = a.annotation;
-                let Turned::On(t) = turn(state, annotation) else {
-                    return Counted::Refused(Refusal::BadLine(i));
-                };
-                let after = t.state;
-                let closed = t.closed;
-                state = after;
-                n += count_of(closed);
-                at = a.next;
-                i += 1;
-            }
-            Step::End(_) => {
-                let last = state.last;
-                return Counted::Lines(n + count_of(last));
-            }
-            Step::Refused(why) => return Counted::Refused(Refusal::Annotation(why)),
+        let next = skip_at(bytes, at);
+        if next == 0 {
+            return match stop_at(bytes, at) {
+                Stopped::End(_) => {
+                    let last = state.last;
+                    Counted::Lines(put(store, n, last))
+                }
+                Stopped::Refused(why) => Counted::Refused(Refusal::Annotation(why)),
+            };
         }
-    }
-}
-
-// Writes all records from the front. The program was accepted, and the caller guarantees the room.
-fn write_lines(bytes: &[u8], store: &mut [i64])
-    requires { ⌜ Accepted (now bytes) (length (now store)) ⌝ }
-    ensures { λ r. ⌜ now (store .exit) ≡ written (allLines (now (bytes .entry))) entries (now (store .entry)) ⌝ }
-{
-    let mut state = State::new();
-    let mut at: usize = 0;
-    let mut k: usize = 0;
-    loop {
-        match step_at(bytes, at) {
-            Step::Annotation(a) => {
-                let annotation = a.annotation;
-                let Turned::On(t) = turn(state, annotation) else {
-                    return;
-                };
-                let after = t.state;
-                let closed = t.closed;
-                state = after;
-                k = put(store, k, closed);
-                at = a.next;
-            }
-            Step::End(_) => {
-                let last = state.last;
-                put(store, k, last);
-                return;
-            }
-            Step::Refused(_) => return,
-        }
-    }
-}
-
-fn count_of(line: MaybeLine) -> usize
-    ensures { λ r. ⌜ Held line r ⌝ }
-{
-    match line {
-        MaybeLine::None => 0,
-        MaybeLine::Some(_) => 1,
+        let a = judged_at(bytes, at);
+        let Turned::On(t) = turn(state, a.opcode, a.first, a.second) else {
+            return Counted::Refused(Refusal::BadLine(i));
+        };
+        let after = t.state;
+        let closed = t.closed;
+        state = after;
+        n = put(store, n, closed);
+        at = a.next;
+        i += 1;
     }
 }
 

@@ -1,9 +1,10 @@
 use borrow.Author.Needs.{needs}
-use Rattle.line_state.proofs.RowLaws.{rows, turned-as, turned-on, signed-rows}
+use Rattle.line_state.proofs.RowLaws.{rows, row-other, turned-as, turned-on, signed-rows}
 use Rattle.line_state.proofs.turns.turn.Statement.{statement}
 use Rattle.line_state.proofs.turns.turn.Tie as tie
 use Rattle.line_state.proofs.turns.turn.Reads as reads
 use Rattle.line_state.proofs.turns.turn.Lts as lts
+use Rattle.annotations.proofs.decode_signed_operand.Reads as decode-signed-operand-reads
 use Rattle.annotations.proofs.wide.Reads as wide-reads
 use Rattle.line_state.proofs.state.Position.with_base.Reads as with-base-reads
 use Rattle.line_state.proofs.state.Position.with_code.Reads as with-code-reads
@@ -19,139 +20,99 @@ use Rattle.line_state.proofs.turns.emit_on_line.Reads as emit-on-line-r
 use Rattle.line_state.proofs.turns.on.Reads as on-reads
 use Rattle.line_state.proofs.turns.set_length.Reads as set-length-reads
 
--- src/turns.rt:43:38
-enum-known-a : tie.Need-enum-known-a
-enum-known-a c = search needs
-
--- src/turns.rt:43:47
+-- src/turns.rt:44:17
 with-code-requires : tie.Need-with-code-requires
 with-code-requires c κs = search needs
 
--- src/turns.rt:43:44
+-- src/turns.rt:44:14
 on-requires : tie.Need-on-requires
 on-requires c κs = search needs
 
--- src/turns.rt:44:48
-enum-known-a-2 : tie.Need-enum-known-a-2
-enum-known-a-2 c = search needs
-
--- src/turns.rt:44:57
+-- src/turns.rt:46:17
 with-base-requires : tie.Need-with-base-requires
 with-base-requires c κs = search needs
 
--- src/turns.rt:44:54
+-- src/turns.rt:46:14
 on-requires-2 : tie.Need-on-requires-2
 on-requires-2 c κs = search needs
 
--- src/turns.rt:45:44
-enum-known-a-3 : tie.Need-enum-known-a-3
-enum-known-a-3 c = search needs
-
--- src/turns.rt:45:50
+-- src/turns.rt:48:14
 emit-requires : tie.Need-emit-requires
 emit-requires c κs = search needs
 
--- src/turns.rt:46:44
-enum-known-a-4 : tie.Need-enum-known-a-4
-enum-known-a-4 c = search needs
-
--- src/turns.rt:46:50
+-- src/turns.rt:50:14
 set-length-requires : tie.Need-set-length-requires
 set-length-requires c κs = search needs
 
--- src/turns.rt:47:38
-enum-known-a-5 : tie.Need-enum-known-a-5
-enum-known-a-5 c = search needs
-
--- src/turns.rt:47:47
+-- src/turns.rt:52:17
 with-file-requires : tie.Need-with-file-requires
 with-file-requires c κs = search needs
 
--- src/turns.rt:47:44
+-- src/turns.rt:52:14
 on-requires-3 : tie.Need-on-requires-3
 on-requires-3 c κs = search needs
 
--- src/turns.rt:48:44
-enum-known-a-6 : tie.Need-enum-known-a-6
-enum-known-a-6 c = search needs
+-- src/turns.rt:54:37
+decode-signed-operand-requires : tie.Need-decode-signed-operand-requires
+decode-signed-operand-requires c κs = search needs
 
--- src/turns.rt:48:50
+-- src/turns.rt:54:14
 advance-line-requires : tie.Need-advance-line-requires
 advance-line-requires c κs = search needs
 
--- src/turns.rt:49:46
-enum-known-a-7 : tie.Need-enum-known-a-7
-enum-known-a-7 c = search needs
-
--- src/turns.rt:49:55
+-- src/turns.rt:56:17
 with-count-requires : tie.Need-with-count-requires
 with-count-requires c κs = search needs
 
--- src/turns.rt:49:52
+-- src/turns.rt:56:14
 on-requires-4 : tie.Need-on-requires-4
 on-requires-4 c κs = search needs
 
--- src/turns.rt:50:43
-enum-known-a-8 : tie.Need-enum-known-a-8
-enum-known-a-8 c = search needs
-
--- src/turns.rt:50:52
+-- src/turns.rt:58:17
 with-kind-requires : tie.Need-with-kind-requires
 with-kind-requires c κs = search needs
 
--- src/turns.rt:50:49
+-- src/turns.rt:58:14
 on-requires-5 : tie.Need-on-requires-5
 on-requires-5 c κs = search needs
 
--- src/turns.rt:51:45
-enum-known-a-9 : tie.Need-enum-known-a-9
-enum-known-a-9 c = search needs
-
--- src/turns.rt:51:54
+-- src/turns.rt:60:17
 with-start-requires : tie.Need-with-start-requires
 with-start-requires c κs = search needs
 
--- src/turns.rt:51:51
+-- src/turns.rt:60:14
 on-requires-6 : tie.Need-on-requires-6
 on-requires-6 c κs = search needs
 
--- src/turns.rt:52:48
-enum-known-a-10 : tie.Need-enum-known-a-10
-enum-known-a-10 c = search needs
+-- src/turns.rt:62:37
+decode-signed-operand-requires-2 : tie.Need-decode-signed-operand-requires-2
+decode-signed-operand-requires-2 c κs = search needs
 
--- src/turns.rt:52:54
+-- src/turns.rt:62:15
 advance-end-requires : tie.Need-advance-end-requires
 advance-end-requires c κs = search needs
 
--- src/turns.rt:53:57
-enum-known-a-11 : tie.Need-enum-known-a-11
-enum-known-a-11 c = search needs
+-- src/turns.rt:64:46
+decode-signed-operand-requires-3 : tie.Need-decode-signed-operand-requires-3
+decode-signed-operand-requires-3 c κs = search needs
 
--- src/turns.rt:53:66
+-- src/turns.rt:64:15
 emit-on-line-requires : tie.Need-emit-on-line-requires
 emit-on-line-requires c κs = search needs
 
--- src/turns.rt:54:57
-enum-known-a-12 : tie.Need-enum-known-a-12
-enum-known-a-12 c = search needs
-
--- src/turns.rt:55:13
+-- src/turns.rt:66:15
 emit-requires-2 : tie.Need-emit-requires-2
 emit-requires-2 c κs = search needs
 
--- src/turns.rt:57:43
-enum-known-a-13 : tie.Need-enum-known-a-13
-enum-known-a-13 c = search needs
-
--- src/turns.rt:57:64
+-- src/turns.rt:68:30
 wide-requires : tie.Need-wide-requires
 wide-requires c κs = search needs
 
--- src/turns.rt:57:52
+-- src/turns.rt:68:18
 with-end-requires : tie.Need-with-end-requires
 with-end-requires c κs = search needs
 
--- src/turns.rt:57:49
+-- src/turns.rt:68:15
 on-requires-7 : tie.Need-on-requires-7
 on-requires-7 c κs = search needs
 
@@ -207,41 +168,35 @@ returns-12 c = search (turned-as, rows)
 returns-13 : tie.Need-returns-13
 returns-13 c = search signed-rows
 
+-- src/turns.rt:37:1
+returns-14 : tie.Need-returns-14
+returns-14 c = search row-other
+
 pub turn-spec : {M : Type 1} → statement M
 turn-spec =
     tie.close
     (tie.spec
-    enum-known-a
     with-code-requires
     on-requires
-    enum-known-a-2
     with-base-requires
     on-requires-2
-    enum-known-a-3
     emit-requires
-    enum-known-a-4
     set-length-requires
-    enum-known-a-5
     with-file-requires
     on-requires-3
-    enum-known-a-6
+    decode-signed-operand-requires
     advance-line-requires
-    enum-known-a-7
     with-count-requires
     on-requires-4
-    enum-known-a-8
     with-kind-requires
     on-requires-5
-    enum-known-a-9
     with-start-requires
     on-requires-6
-    enum-known-a-10
+    decode-signed-operand-requires-2
     advance-end-requires
-    enum-known-a-11
+    decode-signed-operand-requires-3
     emit-on-line-requires
-    enum-known-a-12
     emit-requires-2
-    enum-known-a-13
     wide-requires
     with-end-requires
     on-requires-7
@@ -257,4 +212,5 @@ turn-spec =
     returns-10
     returns-11
     returns-12
-    returns-13)
+    returns-13
+    returns-14)

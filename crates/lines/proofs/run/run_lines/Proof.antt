@@ -4,13 +4,16 @@ use Rattle.lines.proofs.run.run_lines.Statement.{statement}
 use Rattle.lines.proofs.run.run_lines.Tie as tie
 use Rattle.lines.proofs.run.run_lines.Reads as reads
 use Rattle.lines.proofs.run.run_lines.Lts as lts
-use Rattle.lines.proofs.run.count_lines.Reads as count-lines-reads
 use Rattle.lines.proofs.run.entries_needed.Reads as entries-needed-reads
-use Rattle.lines.proofs.run.write_lines.Reads as write-lines-reads
+use Rattle.lines.proofs.run.pass.Reads as pass-reads
+
+-- src/run.rt:37:23
+slice-aggregate-pass : tie.Need-slice-aggregate-pass
+slice-aggregate-pass c = search needs
 
 -- src/run.rt:37:11
-count-lines-requires : tie.Need-count-lines-requires
-count-lines-requires c κs = search needs
+pass-requires : tie.Need-pass-requires
+pass-requires c κs = search needs
 
 -- src/run.rt:38:26
 enum-known-why : tie.Need-enum-known-why
@@ -29,18 +32,18 @@ returns : tie.Need-returns
 returns c = search ran-cases
 
 -- src/run.rt:43:13
-write-lines-requires : tie.Need-write-lines-requires
-write-lines-requires c κs = search ran-cases
+pass-requires-2 : tie.Need-pass-requires-2
+pass-requires-2 c κs = search needs
 
--- src/run.rt:34:1
+-- src/run.rt:33:1
 returns-2 : tie.Need-returns-2
 returns-2 c = search ran-cases
 
--- src/run.rt:34:1
+-- src/run.rt:33:1
 same-length : tie.Need-same-length
 same-length c = search needs
 
--- src/run.rt:34:1
+-- src/run.rt:33:1
 returns-3 : tie.Need-returns-3
 returns-3 c = search ran-cases
 
@@ -48,12 +51,13 @@ pub run-lines-spec : {M : Type 1} → statement M
 run-lines-spec =
     tie.close
     (tie.spec
-    count-lines-requires
+    slice-aggregate-pass
+    pass-requires
     enum-known-why
     enum-known-n
     entries-needed-requires
     returns
-    write-lines-requires
+    pass-requires-2
     returns-2
     same-length
     returns-3)
