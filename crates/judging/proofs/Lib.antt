@@ -1,3 +1,4 @@
 pub mod SkipLaws
 pub mod JudgedLaws
+pub mod FoundLaws
 pub mod StopLaws

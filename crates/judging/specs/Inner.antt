@@ -7,6 +7,9 @@ use Prim.Native.Nat.{ℕ}
 use Rattle.outcome.specs.Outcome.{Outcome, ok, refused}
 use Rattle.numbers.specs.Refusal.{Stop, stopIn}
 use Rattle.annotations.specs.Step.{Stepped, annotation, end, operands, stepAt}
+use Rattle.annotations.specs.Inner.{ReadAs, Reading}
+use Rattle.annotations.specs.declared.operands.Operands.{Operands}
+use Rattle.annotations.specs.declared.operands.OperandStep.the-variants as read
 use Rattle.judging.specs.declared.stop.Stopped.{Stopped}
 use Rattle.judging.specs.declared.stop.Stopped.the-variants as stopped
 
@@ -26,6 +29,15 @@ pub record SkippingOperands (s : List ℕ) (op at r : ℕ) : Type 0 where
 -- an annotation stands there
 pub record Judged (s : List ℕ) (at : ℕ) : Type 0 where
   pub there : endOf (stepAt s at) ≡ 0 → ⊥
+
+-- the annotation that stands there; the place after it is 0 if none does
+pub record Finding (s : List ℕ) (at : ℕ) (r : Operands) : Type 0 where
+  pub ends : Skipping s at (r .next)
+  pub there : (r .next ≡ 0 → ⊥) → Reading s at (read.Annotation r)
+
+pub record FindingOperands (s : List ℕ) (op : ℕ) (short : Bool) (at : ℕ) (r : Operands) : Type 0 where
+  pub ends : r .next ≡ endOf (operands s op short at)
+  pub there : (r .next ≡ 0 → ⊥) → ReadAs (operands s op short at) (read.Annotation r)
 
 -- what the answer says on paper
 unfoldable pub stoppedIn : Stopped → Outcome Stop Stepped

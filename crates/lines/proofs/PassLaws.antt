@@ -20,7 +20,7 @@ use Rattle.annotations.specs.Inner.{readIn, Reading}
 use Rattle.annotations.specs.declared.operands.Operands.{Operands}
 use Rattle.annotations.specs.declared.operands.OperandStep.the-variants as read
 use Rattle.annotations.proofs.MoveLaws.{Advanced, advanced}
-use Rattle.judging.specs.Inner.{endOf, Skipping, Judged, stoppedIn, Stopping}
+use Rattle.judging.specs.Inner.{Skipping, Finding, stoppedIn, Stopping}
 use Rattle.judging.specs.declared.stop.Stopped.{Stopped}
 use Rattle.judging.specs.declared.stop.Stopped.the-variants as stopped
 use Rattle.decode.specs.Decode.{decodeAll, rest, DecodeStop, withPlace}
@@ -40,8 +40,12 @@ use Rattle.lines.specs.declared.run.Counted.the-variants.{Lines, Refused
 use Rattle.lines.proofs.ProgramLaws.{listed-few, entries-append, length-entries, before, plus, plus-none, how-many-before, plus-plus, lines-on, lines-bad, lines-end, lines-refused}
 
 -- ---- what the promises of the calls say
-pub judged : {s : List ℕ} {at next : ℕ} → Skipping s at next → (next ≡ 0 → ⊥) → Judged s at
-judged k z = record { there = λ e. z (k .is ∙ e) }
+module _ {s : List ℕ} {at : ℕ} {a : Operands} (f : Finding s at a) where
+  pub stops : a .next ≡ 0 → Skipping s at 0
+  stops z = rw z at (f .ends)
+
+  pub reads : (a .next ≡ 0 → ⊥) → Reading s at (read.Annotation a)
+  reads = f .there
 
 abbrev foundIn : Operands → PlacedTriple
 foundIn a = placed (annotationOf (a .opcode) (a .first) (a .second)) (a .shortest) (a .next)
@@ -174,4 +178,4 @@ module _ {s : List ℕ} {st₀ st : List ℤ} {state : State} {at i n : ℕ} (c 
           after = λ w. absurd (ok-refused (sym (c .left w .is) ∙ stop));
         }
 
-pub ruleset pass-cases = (judged, fewer-left, pass-none, pass-bad, pass-more, pass-end, pass-refused)
+pub ruleset pass-cases = (stops, reads, fewer-left, pass-none, pass-bad, pass-more, pass-end, pass-refused)

@@ -4,8 +4,7 @@ use crate::entries::ENTRIES_EACH;
 use crate::entries::put;
 use crate::refusal::Refusal;
 use judging::Stopped;
-use judging::judged_at;
-use judging::skip_at;
+use judging::found_at;
 use judging::stop_at;
 use line_state::State;
 use line_state::Turned;
@@ -55,7 +54,8 @@ fn pass(bytes: &[u8], store: &mut [i64]) -> Counted
     let mut i: usize = 0;
     let mut n: usize = 0;
     loop {
-        let next = skip_at(bytes, at);
+        let a = found_at(bytes, at);
+        let next = a.next;
         if next == 0 {
             return match stop_at(bytes, at) {
                 Stopped::End(_) => {
@@ -65,7 +65,6 @@ fn pass(bytes: &[u8], store: &mut [i64]) -> Counted
                 Stopped::Refused(why) => Counted::Refused(Refusal::Annotation(why)),
             };
         }
-        let a = judged_at(bytes, at);
         let Turned::On(t) = turn(state, a.opcode, a.first, a.second) else {
             return Counted::Refused(Refusal::BadLine(i));
         };
@@ -73,7 +72,7 @@ fn pass(bytes: &[u8], store: &mut [i64]) -> Counted
         let closed = t.closed;
         state = after;
         n = put(store, n, closed);
-        at = a.next;
+        at = next;
         i += 1;
     }
 }
