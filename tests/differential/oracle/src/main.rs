@@ -9,7 +9,8 @@
 //! containers: COUNT is the number of random containers, with several questions about each. The same
 //! words with -buffer are about the reads of a parse buffer, those with -writer about writing
 //! annotations: COUNT is the number of random lists of annotations. Those with -pack are about writing
-//! containers: COUNT is the number of random containers.
+//! containers: COUNT is the number of random containers. Those with -lines are about running line programs:
+//! COUNT is the number of random programs.
 //!
 //!     oracle isolation-msf SEED COUNT  COUNT pairs of containers that agree on what a stream's
 //!                                      answers depend on, for which pdb must answer the same
@@ -19,7 +20,8 @@
 //! With the feature `ours` our library is asked too, through the crate `trovespan`:
 //!
 //!     oracle compare SUBJECT SEED COUNT  compares our answers with pdb's on the questions of that live
-//!                                        list. SUBJECT is annotations, msf, isolation, writer or pack
+//!                                        list. SUBJECT is annotations, msf, isolation, writer, pack
+//!                                        or lines
 //!     oracle compare SUBJECT             the same on the fixed list, which isolation does not have
 //!     oracle compare SUBJECT large       the same on strings, files, lists of annotations or streams
 //!                                        that are too large for a list of questions: their places,
@@ -62,17 +64,18 @@ mod buffer;
 mod compare;
 mod container;
 mod digest;
+mod lines;
 mod pack;
 mod random;
 mod records;
 mod writer;
 
 const USAGE: &str = "usage: oracle record | live SEED COUNT | show N | alter N, \
-                     or the same with -msf, -buffer, -writer or -pack after the first word, \
+                     or the same with -msf, -buffer, -writer, -pack or -lines after the first word, \
                      or isolation-msf SEED COUNT | file-msf NAME | listing-msf, \
                      or with the feature ours compare SUBJECT [large | SEED COUNT] \
                      | compare-altered N SUBJECT [large | SEED COUNT] | bench, \
-                     where SUBJECT is annotations, msf, isolation, writer or pack";
+                     where SUBJECT is annotations, msf, isolation, writer, pack or lines";
 
 fn main() {
     let words: Vec<String> = std::env::args().skip(1).collect();
@@ -126,6 +129,12 @@ fn answer(words: &[&str], out: &mut impl Write) -> io::Result<()> {
         ["live-pack", seed, count] => pack::write(pack::live(number(seed), number(count)), out)?,
         ["show-pack", n] => out.write_all(pack::show(&read(), number(n) as usize).as_bytes())?,
         ["alter-pack", n] => out.write_all(&pack::LAYOUT.altered(&read(), number(n) as usize))?,
+        ["record-lines"] => lines::write(lines::fixed(), out)?,
+        ["live-lines", seed, count] => {
+            lines::write(lines::live(number(seed), number(count)), out)?
+        }
+        ["show-lines", n] => out.write_all(lines::show(&read(), number(n) as usize).as_bytes())?,
+        ["alter-lines", n] => out.write_all(&lines::LAYOUT.altered(&read(), number(n) as usize))?,
         #[cfg(feature = "ours")]
         ["compare", ref asked @ ..] => compare(asked, None, out)?,
         #[cfg(feature = "ours")]
@@ -168,6 +177,11 @@ fn compare(asked: &[&str], altered: Option<usize>, out: &mut impl Write) -> io::
         ["pack", "large"] => pack::compare(pack::large(), &mut comparison),
         ["pack", seed, count] => {
             pack::compare(pack::live(number(seed), number(count)), &mut comparison)
+        }
+        ["lines"] => lines::compare(lines::fixed(), &mut comparison),
+        ["lines", "large"] => lines::compare(lines::large(), &mut comparison),
+        ["lines", seed, count] => {
+            lines::compare(lines::live(number(seed), number(count)), &mut comparison)
         }
         _ => stop(USAGE),
     }

@@ -3,14 +3,14 @@
 mod answers;
 #[cfg(feature = "ours")]
 mod compare;
-mod forms;
+pub mod forms;
 #[cfg(feature = "ours")]
 mod large;
 mod list;
 #[cfg(feature = "ours")]
 mod ours;
 mod pdb;
-mod programs;
+pub mod programs;
 mod questions;
 mod rules;
 mod show;
@@ -23,8 +23,8 @@ pub use compare::compare;
 #[cfg(feature = "ours")]
 pub use large::large;
 pub use list::{write, LAYOUT};
-pub use pdb::read_whole;
+pub use pdb::{read_front, read_whole};
 #[cfg(feature = "ours")]
 pub use pdb::triple;
 pub use questions::{fixed, live};
-pub use show::record as show;
+pub use show::{hex, record as show};

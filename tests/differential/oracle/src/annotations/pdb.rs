@@ -78,6 +78,19 @@ pub fn read_whole(bytes: &[u8]) -> Option<Vec<i64>> {
     (read == bytes.len()).then_some(entries)
 }
 
+/// The annotations up to the end or the first refusal; then that refusal, and the place after it.
+pub fn read_front(bytes: &[u8]) -> (Vec<BinaryAnnotation>, Option<(Refusal, usize)>) {
+    let mut iter = iter_at(bytes, 0);
+    let mut annotations = Vec::new();
+    loop {
+        match iter.next() {
+            Ok(Some(annotation)) => annotations.push(annotation),
+            Ok(None) => return (annotations, None),
+            Err(error) => return (annotations, Some((refusal(&error), iter.buffer.pos()))),
+        }
+    }
+}
+
 /// The number of store entries that the annotations take, up to the end or the first refusal.
 pub fn needed(bytes: &[u8]) -> usize {
     let mut needed = 0;
