@@ -40,13 +40,18 @@ fn many_records() -> impl Iterator<Item = Question> {
         .map(move |tail| around_needed([&program, *tail].concat()))
 }
 
-/// Over 65,536 annotations before the first record, or before a length that is due to none.
+/// Over 65,536 annotations, and over 2^24, before the first record, or before a length that is due to none.
 fn no_records() -> impl Iterator<Item = Question> {
-    let program = [0x06, 0x02].repeat(BITS_17 + 5);
-    let ends: [&[u8]; 3] = [&[0x03, 0x05], &[0x04, 0x05], &[0x0a, 0x02]];
-    ends.to_vec()
-        .into_iter()
-        .map(move |end| around_needed([&program, end].concat()))
+    let ends: [(usize, &[u8]); 4] = [
+        (BITS_17, &[0x03, 0x05]),
+        (BITS_17, &[0x04, 0x05]),
+        (BITS_17, &[0x0a, 0x02]),
+        (BITS_25, &[0x04, 0x05]),
+    ];
+    ends.to_vec().into_iter().map(|(count, end)| {
+        let program = [0x06, 0x02].repeat(count + 5);
+        around_needed([&program, end].concat())
+    })
 }
 
 /// Records that need more than 2^24 entries, in a store of none.

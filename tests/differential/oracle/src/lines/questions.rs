@@ -28,7 +28,8 @@ pub fn fixed() -> impl Iterator<Item = Question> {
         let bytes = long(&mut random);
         ask(bytes, &mut random, &mut questions);
     }
-    questions.extend(longest().into_iter().map(around_needed));
+    let long = [shapes::wide(), longest()].concat();
+    questions.extend(long.into_iter().map(around_needed));
     questions.into_iter()
 }
 

@@ -135,8 +135,11 @@ impl Program {
 
     /// A number of the state at each emission.
     fn emitted(&self, start: i128, change: impl Fn(i128, BinaryAnnotation) -> i128) -> Vec<i128> {
-        let after: Vec<i128> = self.after_each(start, change).collect();
-        self.emissions.iter().map(|&i| after[i]).collect()
+        let after = self.annotations.iter().zip(self.after_each(start, change));
+        after
+            .filter(|(a, _)| emits(**a))
+            .map(|(_, number)| number)
+            .collect()
     }
 
     /// The first annotation that is refused as 25.

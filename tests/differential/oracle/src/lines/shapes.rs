@@ -1,4 +1,4 @@
-//! Programs that are made one by one, for the fixed list. Each is asked about in every room.
+//! Programs that are made one by one, for the fixed list.
 
 use super::programs::{both, bytes, climb, signed, Annotation, LARGEST};
 use crate::annotations::forms;
@@ -42,6 +42,7 @@ const FRONTS: [&[u8]; 8] = [
 /// A program as its annotations.
 type Program = Vec<Annotation>;
 
+/// Programs that are asked about in every room.
 pub fn programs() -> Vec<Vec<u8>> {
     let annotations = [short(), framed(), falling(), highest(), farthest()].concat();
     let mut programs: Vec<Vec<u8>> = annotations.iter().map(|program| bytes(program)).collect();
@@ -144,14 +145,17 @@ fn falling() -> Vec<Program> {
     programs
 }
 
-/// Offsets around the largest, reached by each emission from different bases; and by a base.
+/// Offsets around the largest, reached by each emission from different bases, with and without a length for the record
+/// before; and reached by a base.
 fn highest() -> Vec<Program> {
     let mut programs = Vec::new();
     for to in LAST_OFFSET - 1..=LAST_OFFSET + 2 {
         for &base in &[0, 1, 15, LARGEST] {
             for &delta in &[0, 1, 15] {
-                let climb = climb(base, to - u64::from(delta));
-                programs.extend(joined(&[climb], &emissions(delta)));
+                let climb = vec![climb(base, to - u64::from(delta))];
+                let with_length = joined(&climb, &[vec![vec![4, 1]]]);
+                programs.extend(joined(&climb, &emissions(delta)));
+                programs.extend(joined(&with_length, &emissions(delta)));
             }
         }
         for &delta in &[16, LARGEST] {
@@ -187,6 +191,22 @@ fn farthest() -> Vec<Program> {
     let mut programs = joined(&[raised], &lowered);
     programs.extend(vec![far, long]);
     programs
+}
+
+/// Lines and end columns that take more than 32 bits, on both sides of zero, with a record at every step.
+pub fn wide() -> Vec<Vec<u8>> {
+    let farthest = (LARGEST / 2) as i32;
+    let steps = |opcode, z| bytes(&[vec![opcode, signed(z)], vec![3, 1]]).repeat(20);
+    let by_11 = |z| bytes(&[vec![11, both(1, z)]]).repeat(300);
+    vec![
+        steps(6, farthest),
+        steps(6, -farthest),
+        steps(10, farthest),
+        steps(10, -farthest),
+        [bytes(&[vec![13, LARGEST]]), steps(10, farthest)].concat(),
+        by_11(farthest / 16),
+        by_11(-(farthest / 16)),
+    ]
 }
 
 /// The samples between two emissions, each number in every form that holds it.
