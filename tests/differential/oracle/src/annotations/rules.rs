@@ -3,7 +3,8 @@
 //! A question asks for the number and the steps at its place, and decodes the bytes with each room of
 //! the row, so one question is enough for a row that names several of these. R1 to R9, R14, R15 and
 //! R19 to R45 are about containers, R60 about reads (`buffer/rules.rs`), R61 to R70 about listings, R71 to
-//! R80 about writing annotations (`writer/rules.rs`), R81 to R92 about writing containers (`pack/rules.rs`).
+//! R80 about writing annotations (`writer/rules.rs`), R81 to R92 about writing containers (`pack/rules.rs`),
+//! R101 to R131 about line programs (`lines/rules.rs`).
 
 use super::list::Question;
 

@@ -9,7 +9,7 @@ pub const LARGEST: u32 = 0x1fff_ffff;
 /// An annotation as its numbers: the opcode, and the operands as they stand in the bytes.
 pub type Annotation = Vec<u32>;
 
-/// The operands that 11's code delta and 4 bits leave, and that keep a program's offsets low.
+/// Code deltas that keep the offsets of a program low.
 const SMALL: [u32; 8] = [0, 1, 2, 3, 5, 8, 15, 16];
 
 /// The opcodes of a program that is accepted, as often as they shall occur. 1 and 2 are left out: they may make the

@@ -1,5 +1,5 @@
 //! What running a line program must answer, reckoned from the text of request 2026-07 and the comments of pdb's
-//! `BinaryAnnotation`. pdb does not run line programs. It decides what it can: the annotations, the refusals among
+//! `BinaryAnnotation`. pdb's own way of running one is not asked for. It decides the annotations, the refusals among
 //! them with their places, and which annotations emit.
 //!
 //! Nothing here steps through a program with a state. Each number of the state is reckoned by itself, for all

@@ -5,7 +5,7 @@
 use super::list::Question;
 use super::questions::in_every_room;
 
-/// The annotation with the largest operand.
+/// The largest operand.
 const LARGEST: [u8; 4] = [0xdf, 0xff, 0xff, 0xff];
 
 pub fn questions() -> Vec<Question> {
@@ -62,7 +62,7 @@ fn opcodes() -> Vec<Vec<u8>> {
         // R113
         vec![0x0c, 0x03, 0x07],
     ];
-    // R114. 4 alone is R125's.
+    // R114. 4 is R125's.
     programs.extend((1..=13).map(|opcode| vec![opcode, 0x05, 0x00]));
     programs
 }
@@ -132,14 +132,14 @@ fn bad_lines() -> Vec<Vec<u8>> {
     let emitted = [raised.as_slice(), &[0x03, 0x00]].concat();
     programs.extend(vec![raised, emitted]);
     programs.extend(vec![
-        // R124
+        // R124. R130 names the first too.
         vec![0x03, 0x05, 0x01, 0x04, 0x03, 0x00],
         vec![0x03, 0x05, 0x01, 0x05, 0x03, 0x00],
         vec![0x03, 0x05, 0x01, 0x04, 0x03, 0x01],
         vec![0x03, 0x05, 0x01, 0x04, 0x0b, 0x00],
         vec![0x03, 0x05, 0x01, 0x04, 0x0c, 0x00, 0x00],
         vec![0x02, 0x05, 0x03, 0x00, 0x02, 0x04, 0x03, 0x00],
-        // R125. R128 and R129 name the first too, R130 the second.
+        // R125. R129 names the first too.
         vec![0x04, 0x05],
         vec![0x03, 0x05, 0x04, 0x05],
         // R126
