@@ -87,12 +87,12 @@ pub fn emitted(bytes: &[u8]) -> usize {
 
 /// 3, 11 and 12 emit. pdb must say so too.
 fn emits(annotation: BinaryAnnotation) -> bool {
-    let emits = match annotation {
-        ChangeCodeOffset(_) => true,
-        ChangeCodeOffsetAndLineOffset(_, _) => true,
-        ChangeCodeLengthAndCodeOffset(_, _) => true,
-        _ => false,
-    };
+    let emits = matches!(
+        annotation,
+        ChangeCodeOffset(_)
+            | ChangeCodeOffsetAndLineOffset(_, _)
+            | ChangeCodeLengthAndCodeOffset(_, _)
+    );
     if emits != annotation.emits_line_info() {
         crate::stop(&format!("pdb says otherwise of {:?}", annotation));
     }

@@ -160,13 +160,13 @@ fn highest() -> Vec<Program> {
         }
         for &delta in &[16, LARGEST] {
             let climb = climb(7, to - u64::from(delta));
-            programs.extend(joined(&[climb.clone()], &[vec![vec![3, delta]]]));
-            programs.extend(joined(&[climb], &[vec![vec![12, 0, delta]]]));
+            let ends = [vec![vec![3, delta]], vec![vec![12, 0, delta]]];
+            programs.extend(joined(&[climb], &ends));
         }
         for &base in &[1, LARGEST] {
-            let raised = [climb(0, to - u64::from(base)), vec![vec![2, base]]].concat();
-            programs.extend(joined(&[raised.clone()], &emissions(0)));
-            programs.push(raised);
+            let raised = vec![[climb(0, to - u64::from(base)), vec![vec![2, base]]].concat()];
+            programs.extend(joined(&raised, &emissions(0)));
+            programs.extend(raised);
         }
     }
     programs
