@@ -1,0 +1,1 @@
+use Prim.Native.Nat.{ℕ}
