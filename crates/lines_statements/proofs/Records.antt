@@ -62,7 +62,7 @@ as-many =
     }
 
 -- ---- every record that is closed has a length
-settled-bytes : (from : Position) (n : Length) (to : ℕ) {m : Length} → settled from n to ≡ ok m → (k : ℕ) × (m ≡ length.Bytes k)
+pub settled-bytes : (from : Position) (n : Length) (to : ℕ) {m : Length} → settled from n to ≡ ok m → (k : ℕ) × (m ≡ length.Bytes k)
 unfolding settled _>>_ require
 settled-bytes from (length.Bytes k) to e = (k, ok-is (sym e))
 settled-bytes from length.None to e = go (leb (offsetOf from) to) e
@@ -90,16 +90,16 @@ lengthy : {s t : State} {found : List PlacedTriple} {closed : List Line} → Run
 lengthy none = λ i h. absurd (omega arith)
 lengthy (more {s} {x} {lines} e r) = closed-lengthy (turned s x e) refl lines (lengthy r)
 
-head-is : {A : Type 0} {a b : A} {l m : List A} → a ∷ l ≡ b ∷ m → a ≡ b
+pub head-is : {A : Type 0} {a b : A} {l m : List A} → a ∷ l ≡ b ∷ m → a ≡ b
 head-is e = cc
 
-no-head : {A : Type 0} {a : A} {l : List A} → _≡_ {A = List A} (a ∷ l) [] → ⊥
+pub no-head : {A : Type 0} {a : A} {l : List A} → _≡_ {A = List A} (a ∷ l) [] → ⊥
 no-head e = let z : _≡_ {A = ℕ} 0 1 = cc in omega arith
 
-some-is : {l m : Line} → maybe.Some l ≡ maybe.Some m → l ≡ m
+pub some-is : {l m : Line} → maybe.Some l ≡ maybe.Some m → l ≡ m
 some-is e = cc
 
-some-none : {l : Line} → maybe.Some l ≡ maybe.None → ⊥
+pub some-none : {l : Line} → maybe.Some l ≡ maybe.None → ⊥
 some-none e = let z : _≡_ {A = ℕ} 0 1 = cc in omega arith
 
 -- ---- what becomes of a record that was emitted last, where these annotations follow and these records come of it
@@ -112,11 +112,11 @@ record Fate (l : Line) (later : List PlacedTriple) (all : List Line) : Type 0 wh
   due : given (l .length) later ≡ length.None → (r : Line) (after : List Line) → others ≡ r ∷ after → (offsetOf (l .at) ≤ offsetOf (r .at)) × (first .length ≡ length.Bytes (offsetOf (r .at) - offsetOf (l .at)))
   left : given (l .length) later ≡ length.None → others ≡ [] → first .length ≡ length.None
 
-settled-set : (from : Position) (n : Length) (to : ℕ) {m : Length} (k : ℕ) → settled from n to ≡ ok m → n ≡ length.Bytes k → m ≡ length.Bytes k
+pub settled-set : (from : Position) (n : Length) (to : ℕ) {m : Length} (k : ℕ) → settled from n to ≡ ok m → n ≡ length.Bytes k → m ≡ length.Bytes k
 unfolding settled
 settled-set from n to k e f = ok-is (sym (rw f at e))
 
-settled-due : (from : Position) (n : Length) (to : ℕ) {m : Length} → settled from n to ≡ ok m → n ≡ length.None → (offsetOf from ≤ to) × (m ≡ length.Bytes (to - offsetOf from))
+pub settled-due : (from : Position) (n : Length) (to : ℕ) {m : Length} → settled from n to ≡ ok m → n ≡ length.None → (offsetOf from ≤ to) × (m ≡ length.Bytes (to - offsetOf from))
 unfolding settled _>>_ require
 settled-due from n to {m} e f = go (leb (offsetOf from) to) refl (rw f at e)
   where
@@ -192,7 +192,7 @@ fate (more {s} {t} {x} {later} {a} {lines} e r) l g =
     (turn-fate l x later (turned s x e) g refl (lines ++ listed (t .last)) (λ m k. fate r m k))
 
 -- ---- a run in parts
-tail-is : {A : Type 0} {a b : A} {l m : List A} → a ∷ l ≡ b ∷ m → l ≡ m
+pub tail-is : {A : Type 0} {a b : A} {l m : List A} → a ∷ l ≡ b ∷ m → l ≡ m
 tail-is e = cc
 
 record First (s t : State) (x : PlacedTriple) (later : List PlacedTriple) (closed : List Line) : Type 0 where

@@ -20,7 +20,7 @@ use Rattle.line_state.specs.declared.state.Line.{Line}
 use Rattle.line_state.specs.declared.state.State.{State}
 use Rattle.line_state.specs.declared.turns.After.{After}
 use Rattle.lines.specs.Lines.{listed, program, badLine, linesFrom, entriesEach, needed, running}
-use Rattle.lines_statements.specs.Runs.{Runs, none, more, RunsTo, StopsAt, Ends, RunExactly}
+use Rattle.lines_statements.specs.Runs.{Runs, none, more, RunsTo, StopsAt, Ended, RunExactly}
 
 -- ---- from runs to the program
 pub runs-program : {s t : State} {found : List PlacedTriple} {closed : List Line} → Runs s found t closed → (i : ℕ) → program s i found ≡ ok (closed ++ listed (t .last))
@@ -88,7 +88,7 @@ program-stops (x ∷ later) s i {j} e = go (λ t l g. program-stops later t (suc
             (suc (r .0), (omega (arith, r .1 .0, refused-is k), later-stops f (r .1 .1)))
 
 -- ---- the program and the closing step give the answer
-abbrev answer : Outcome ℕ (List Line) → Outcome Stop ℕ → ℕ → Outcome DecodeStop (List Line)
+abbrev pub answer : Outcome ℕ (List Line) → Outcome Stop ℕ → ℕ → Outcome DecodeStop (List Line)
 answer p last room =
     ((raise badLine p >>= λ lines. raise withPlace last >> ok lines) >>= λ lines. require (leb (entriesEach * length lines) room) (noRoom (needed (length lines))) >> ok lines)
 
@@ -99,7 +99,7 @@ module _ (s : List ℕ) (room : ℕ) where
   abbrev closing : Outcome Stop ℕ
   closing = decodeAll s .last
 
-  is-answer : running s room ≡ answer all closing room
+  pub is-answer : running s room ≡ answer all closing room
   unfolding running linesFrom
   is-answer = refl
 
@@ -143,24 +143,24 @@ module _ (room : ℕ) where
       go true f = absurd (ok-refused f)
       go false f = placed-not (sym f) refl refl
 
-  no-room-is : (p : Outcome ℕ (List Line)) (last : Outcome Stop ℕ) {n : ℕ} → answer p last room ≡ refused (noRoom n) → (lines : List Line) × ((p ≡ ok lines) × (Ends last × ((room < entriesEach * length lines) × (n ≡ needed (length lines)))))
+  no-room-is : (p : Outcome ℕ (List Line)) (last : Outcome Stop ℕ) {n : ℕ} → answer p last room ≡ refused (noRoom n) → (lines : List Line) × ((p ≡ ok lines) × (Ended last × ((room < entriesEach * length lines) × (n ≡ needed (length lines)))))
   unfolding _>>=_ _>>_ require raise
   no-room-is (refused j) last e = absurd (omega (arith, number-of e))
   no-room-is (ok lines) (refused why) e = placed-not e refl refl
   no-room-is (ok lines) (ok place) {n} e = go (leb (entriesEach * length lines) room) refl e
     where
-      go : (b : Bool) → leb (entriesEach * length lines) room ≡ b → (require b (noRoom (needed (length lines))) >> ok lines) ≡ refused (noRoom n) → (l : List Line) × ((_≡_ {A = Outcome ℕ (List Line)} (ok lines) (ok l)) × (Ends (ok place) × ((room < entriesEach * length l) × (n ≡ needed (length l)))))
+      go : (b : Bool) → leb (entriesEach * length lines) room ≡ b → (require b (noRoom (needed (length lines))) >> ok lines) ≡ refused (noRoom n) → (l : List Line) × ((_≡_ {A = Outcome ℕ (List Line)} (ok lines) (ok l)) × (Ended (ok place) × ((room < entriesEach * length l) × (n ≡ needed (length l)))))
       go true t f = absurd (ok-refused f)
       go false t f =
           (lines, (refl, ((place, refl), (leb-false (entriesEach * length lines) room t, sym (value-of f)))))
 
-  accepted-is : (p : Outcome ℕ (List Line)) (last : Outcome Stop ℕ) {lines : List Line} → answer p last room ≡ ok lines → (p ≡ ok lines) × (Ends last × (entriesEach * length lines ≤ room))
+  accepted-is : (p : Outcome ℕ (List Line)) (last : Outcome Stop ℕ) {lines : List Line} → answer p last room ≡ ok lines → (p ≡ ok lines) × (Ended last × (entriesEach * length lines ≤ room))
   unfolding _>>=_ _>>_ require raise
   accepted-is (refused j) last e = absurd (ok-refused (sym e))
   accepted-is (ok m) (refused why) e = absurd (ok-refused (sym e))
   accepted-is (ok m) (ok place) {lines} e = go (leb (entriesEach * length m) room) refl e
     where
-      go : (b : Bool) → leb (entriesEach * length m) room ≡ b → (require b (noRoom (needed (length m))) >> ok m) ≡ ok lines → (_≡_ {A = Outcome ℕ (List Line)} (ok m) (ok lines)) × (Ends (ok place) × (entriesEach * length lines ≤ room))
+      go : (b : Bool) → leb (entriesEach * length m) room ≡ b → (require b (noRoom (needed (length m))) >> ok m) ≡ ok lines → (_≡_ {A = Outcome ℕ (List Line)} (ok m) (ok lines)) × (Ended (ok place) × (entriesEach * length lines ≤ room))
       go true t f = let same : m ≡ lines = ok-is f in (ap ok same, ((place, refl), rw same at (leb-true (entriesEach * length m) room t)))
       go false t f = absurd (ok-refused (sym f))
 
@@ -175,26 +175,30 @@ pub run-exactly : RunExactly
 unfolding _>>=_ _>>_ require raise
 run-exactly =
     record {
-      bad = λ s room i.
-          (λ e.
-          let r = program-stops (decodeAll s .found) start 0 (bad-is room (all s room) (closing s room) (sym (is-answer s room) ∙ e)) in
-          let same : r .0 ≡ i = omega (arith, r .1 .0) in
-          rw same at (r .1 .1),
-          λ x. is-answer s room ∙ rw (stopped x));
-      decoder = λ s room why.
-          (λ e.
-          let r = decoder-is room (all s room) (closing s room) (sym (is-answer s room) ∙ e) in
-          ((r .0 .0, program-runs (decodeAll s .found) start 0 (r .0 .1)), r .1),
-          λ x. is-answer s room ∙ rw (ran (x .0 .1), x .1));
-      no-room = λ s room n.
-          (λ e.
-          let r = no-room-is room (all s room) (closing s room) (sym (is-answer s room) ∙ e) in
-          (r .0, (program-runs (decodeAll s .found) start 0 (r .1 .0), r .1 .1 .0, r .1 .1 .1 .0, r .1 .1 .1 .1)),
-          λ x.
-          is-answer s room ∙ rw (ran (x .1 .0), x .1 .1 .1, lt-leb (entriesEach * length (x .0)) room (x .1 .2), x .1 .3));
-      accepted = λ s room lines.
-          (λ e.
-          let r = accepted-is room (all s room) (closing s room) (sym (is-answer s room) ∙ e) in
-          (program-runs (decodeAll s .found) start 0 (r .0), r .1 .0, r .1 .1),
-          λ x. is-answer s room ∙ rw (ran (x .0), x .1 .1, le-leb (entriesEach * length lines) room (x .2)));
+      bad = λ s room i. (
+        λ e.
+            let r = program-stops (decodeAll s .found) start 0 (bad-is room (all s room) (closing s room) (sym (is-answer s room) ∙ e)) in
+            let same : r .0 ≡ i = omega (arith, r .1 .0) in
+            rw same at (r .1 .1),
+        λ x. is-answer s room ∙ rw (stopped x),
+      );
+      decoder = λ s room why. (
+        λ e.
+            let r = decoder-is room (all s room) (closing s room) (sym (is-answer s room) ∙ e) in
+            ((r .0 .0, program-runs (decodeAll s .found) start 0 (r .0 .1)), r .1),
+        λ x. is-answer s room ∙ rw (ran (x .0 .1), x .1),
+      );
+      no-room = λ s room n. (
+        λ e.
+            let r = no-room-is room (all s room) (closing s room) (sym (is-answer s room) ∙ e) in
+            (r .0, (program-runs (decodeAll s .found) start 0 (r .1 .0), r .1 .1 .0, r .1 .1 .1 .0, r .1 .1 .1 .1)),
+        λ x.
+            is-answer s room ∙ rw (ran (x .1 .0), x .1 .1 .1, lt-leb (entriesEach * length (x .0)) room (x .1 .2), x .1 .3),
+      );
+      accepted = λ s room lines. (
+        λ e.
+            let r = accepted-is room (all s room) (closing s room) (sym (is-answer s room) ∙ e) in
+            (program-runs (decodeAll s .found) start 0 (r .0), r .1 .0, r .1 .1),
+        λ x. is-answer s room ∙ rw (ran (x .0), x .1 .1, le-leb (entriesEach * length lines) room (x .2)),
+      );
     }

@@ -42,8 +42,8 @@ pub record StopsAt (from : State) (found : List PlacedTriple) (i : ℕ) : Type 0
   pub stops : turning state (next .triple) ≡ refused tt
 
 -- decoding comes to the end
-abbrev pub Ends : Outcome Stop ℕ → Type 0
-Ends last = (place : ℕ) × (last ≡ ok place)
+abbrev pub Ended : Outcome Stop ℕ → Type 0
+Ended last = (place : ℕ) × (last ≡ ok place)
 
 -- "Whichever refusal comes first in the bytes wins; 10 last": each answer exactly under its condition
 pub record RunExactly : Type 0 where
@@ -51,7 +51,7 @@ pub record RunExactly : Type 0 where
   pub decoder : (s : List ℕ) (room : ℕ) (why : Stop) → (running s room ≡ refused (withPlace why))
       ↔ (((lines : List Line) × RunsTo start (decodeAll s .found) lines) × (decodeAll s .last ≡ refused why))
   pub no-room : (s : List ℕ) (room n : ℕ) → (running s room ≡ refused (noRoom n))
-      ↔ ((lines : List Line) × (RunsTo start (decodeAll s .found) lines × Ends (decodeAll s .last)
+      ↔ ((lines : List Line) × (RunsTo start (decodeAll s .found) lines × Ended (decodeAll s .last)
       × (room < entriesEach * length lines) × (n ≡ needed (length lines))))
   pub accepted : (s : List ℕ) (room : ℕ) (lines : List Line) → (running s room ≡ ok lines)
-      ↔ (RunsTo start (decodeAll s .found) lines × Ends (decodeAll s .last) × (entriesEach * length lines ≤ room))
+      ↔ (RunsTo start (decodeAll s .found) lines × Ended (decodeAll s .last) × (entriesEach * length lines ≤ room))

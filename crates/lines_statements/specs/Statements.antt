@@ -90,3 +90,64 @@ pub record Lengths : Type 0 where
       → (i : ℕ) → suc i < length lines → (n : ℕ) × (lineOf lines i .length ≡ length.Bytes n)
   pub are : (before later : List PlacedTriple) (x : PlacedTriple) (lines : List Line)
       → RunsTo start (before ++ x ∷ later) lines → emits (x .triple .opcode) ≡ true → HasLength before later x lines
+
+-- ---- "It sees only the decoder's promise"
+-- the annotations that were found, and how decoding closes, without places
+abbrev pub triplesOf : List ℕ → List Triple
+triplesOf s = map (λ (x : PlacedTriple). x .triple) (decodeAll s .found)
+
+abbrev pub closesAs : List ℕ → Outcome paper.Refusal (Unit {0})
+closesAs s = raise (λ (x : Stop). x .refusal) (decodeAll s .last >> ok tt)
+
+abbrev pub withoutPlace : Outcome DecodeStop (List Line) → Outcome paper.Refusal (List Line)
+withoutPlace o = raise (λ (x : DecodeStop). x .refusal) o
+
+-- two byte strings with the same annotations and the same closing step, but for its place, have the same answer, but for
+-- the place, and the same store
+pub record OnlyThePromise : Type 0 where
+  pub answer : (s t : List ℕ) (room : ℕ) → triplesOf s ≡ triplesOf t → closesAs s ≡ closesAs t
+      → withoutPlace (running s room) ≡ withoutPlace (running t room)
+  pub store : (s t : List ℕ) (store : List ℤ) → triplesOf s ≡ triplesOf t → closesAs s ≡ closesAs t
+      → written (running s (length store)) entries store ≡ written (running t (length store)) entries store
+
+-- ---- what every state satisfies
+pub record BoundedPosition (p : Position) : Type 0 where
+  pub code : p .code < 2 ^ 32
+  pub base : p .base < 2 ^ 29
+  pub file : p .file < 2 ^ 29
+  pub line : mag (p .line) < 2 ^ 63
+  pub count : p .count < 2 ^ 29
+  pub kind : p .kind < 2 ^ 29
+  pub start : p .start < 2 ^ 29
+  pub end : mag (p .end) < 2 ^ 63
+
+pub record BoundedLine (l : Line) : Type 0 where
+  pub at : BoundedPosition (l .at)
+  pub offset : offsetOf (l .at) < 2 ^ 32
+  pub length : (n : ℕ) → l .length ≡ length.Bytes n → n < 2 ^ 32
+
+pub record BoundedState (s : State) : Type 0 where
+  pub at : BoundedPosition (s .at)
+  pub last : (l : Line) → s .last ≡ maybe.Some l → BoundedLine l
+
+-- an annotation with operands that a number can hold
+abbrev pub Held : Triple → Type 0
+Held t = (natAbs (t .first) < 2 ^ 29) × (natAbs (t .second) < 2 ^ 29)
+
+pub record Bounded : Type 0 where
+  pub begins : BoundedState start
+  pub turns : (s : State) (t : Triple) (a : After) → BoundedState s → Held t → turning s t ≡ ok a
+      → BoundedState (a .state) × ((l : Line) → a .closed ≡ maybe.Some l → BoundedLine l)
+
+-- ---- "a line or column outside signed 64 bits"
+abbrev pub Outside : ℤ → Type 0
+Outside z = (z <ℤ negsuc (2 ^ 63 - 1)) ⊎ (pos (2 ^ 63 - 1) <ℤ z)
+
+-- 6 and 10 are refused exactly if the sum is outside, and 11 if it is; from every state, and so from those that no
+-- program of any size reaches
+pub record Ends : Type 0 where
+  pub line : (s : State) (z w : ℤ) → (turning s (triple 6 z w) ≡ refused tt) ↔ Outside (s .at .line +ℤ z)
+  pub column : (s : State) (z w : ℤ) → (turning s (triple 10 z w) ≡ refused tt) ↔ Outside (s .at .end +ℤ z)
+  pub both : (s : State) (v z : ℤ) → Outside (s .at .line +ℤ z) → turning s (triple 11 v z) ≡ refused tt
+  pub moves : (s : State) (z w : ℤ) (a : After) → turning s (triple 6 z w) ≡ ok a
+      → a .state .at .line ≡ s .at .line +ℤ z
