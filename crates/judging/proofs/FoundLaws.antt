@@ -1,21 +1,20 @@
 -- What `found_at` answers: one law for each return. Where a number is missing, `skip_at` would find no annotation either;
 -- where all are there, `operands_at` would read the same.
-use mathlib.Core.Path.{_≡_, refl, sym, _∙_, ap}
+use mathlib.Core.Path.{_≡_, _∙_, ap}
 use mathlib.Core.Bool.{Bool, _&&_}
 use mathlib.Core.List.{List}
 use Prim.Native.Nat.{ℕ, _+_, _≤_, _<_}
-use native.Mathlib.Omega.{arith}
 use Rattle.outcome.specs.Outcome.{Outcome}
 use Rattle.numbers.specs.Refusal.{Stop}
 use Rattle.numbers.specs.Number.{isShortest}
 use Rattle.numbers.specs.Inner.{Width, Value}
-use Rattle.annotations.specs.Step.{Stepped, operands, stepAt}
-use Rattle.annotations.specs.Inner.{readIn, ReadAs, Reading}
+use Rattle.annotations.specs.Step.{Stepped, operands}
+use Rattle.annotations.specs.Inner.{readIn, ReadAs}
 use Rattle.annotations.specs.declared.operands.Operands.{Operands}
 use Rattle.annotations.specs.declared.operands.OperandStep.the-variants.{Annotation}
 use Rattle.annotations.proofs.StepLaws.{code-known, first-alone, first-and-second, at-operands}
 use Rattle.judging.specs.Inner.{endOf, Skipping, SkippingOperands, Finding, FindingOperands}
-use Rattle.judging.proofs.SkipLaws.{skip-first, skip-second, skip-code, inside, skip-zero, skip-unknown, skip-known}
+use Rattle.judging.proofs.SkipLaws.{skip-first, skip-second, skip-code, inside, skip-zero, skip-unknown}
 
 -- an annotation ends at the place after it
 ends : {o : Outcome Stop Stepped} {a : Operands} → ReadAs o (Annotation a) → a .next ≡ endOf o

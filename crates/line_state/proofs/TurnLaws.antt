@@ -1,5 +1,5 @@
 -- What each function over the state answers: one law for each return. Its premises are what the code has there.
-use mathlib.Core.Path.{_≡_, refl, sym, _∙_, ap}
+use mathlib.Core.Path.{_≡_, sym, _∙_}
 use Prim.Native.Nat.{ℕ, _+_, _-_, _^_, _≤_, _<_}
 use native.Mathlib.Omega.{arith}
 use borrow.Author.Tests.{lt-ltb, le-ltb, le-leb, lt-leb}
@@ -12,7 +12,7 @@ use Rattle.outcome.specs.Outcome.{ok, refused, _>>=_, _>>_, require}
 use Rattle.annotations.proofs.AnnotationLaws.{stored}
 use Rattle.line_state.specs.State.{offsetOf, withCode, withLine, withEnd}
 use Rattle.line_state.specs.Turn.{OrBad, after, lineAt, summed, settled, closed, emission, lengthening, advancingLine, advancingEnd, emissionOnLine}
-use Rattle.line_state.specs.Inner.{sumIn, turnedIn, closing}
+use Rattle.line_state.specs.Inner.{sumIn, closing}
 use Rattle.line_state.specs.declared.state.Position.{Position}
 use Rattle.line_state.specs.declared.state.Length.{Length}
 use Rattle.line_state.specs.declared.state.Length.the-variants as length
@@ -23,7 +23,6 @@ use Rattle.line_state.specs.declared.state.State.{State}
 use Rattle.line_state.specs.declared.sum.Sum.{Sum}
 use Rattle.line_state.specs.declared.sum.Sum.the-variants as sum
 use Rattle.line_state.specs.declared.turns.After.{After}
-use Rattle.line_state.specs.declared.turns.Turned.{Turned}
 
 -- ---- `close`
 abbrev closes : State → MaybeLine → OrBad After

@@ -12,23 +12,22 @@ use Rattle.outcome.specs.Outcome.{Outcome, ok, refused, _>>=_}
 use Rattle.outcome.specs.Store.{written}
 use Rattle.outcome.proofs.OutcomeLaws.{ok-is, ok-refused, came-by}
 use Rattle.store.proofs.SetsLaws.{sets-append}
-use Rattle.numbers.specs.Refusal.{Stop, stopIn}
+use Rattle.numbers.specs.Refusal.{stopIn}
 use Rattle.numbers.specs.declared.refusal.PlacedRefusal.{PlacedRefusal}
 use Rattle.annotations.specs.Annotation.{annotationOf}
-use Rattle.annotations.specs.Step.{PlacedTriple, Stepped, annotation, end, placed, stepAt}
+use Rattle.annotations.specs.Step.{PlacedTriple, annotation, end, placed, stepAt}
 use Rattle.annotations.specs.Inner.{readIn, Reading}
 use Rattle.annotations.specs.declared.operands.Operands.{Operands}
 use Rattle.annotations.specs.declared.operands.OperandStep.the-variants as read
-use Rattle.annotations.proofs.MoveLaws.{Advanced, advanced}
+use Rattle.annotations.proofs.MoveLaws.{advanced}
 use Rattle.judging.specs.Inner.{Skipping, Finding, stoppedIn, Stopping}
 use Rattle.judging.specs.declared.stop.Stopped.{Stopped}
 use Rattle.judging.specs.declared.stop.Stopped.the-variants as stopped
-use Rattle.decode.specs.Decode.{decodeAll, rest, DecodeStop, withPlace}
+use Rattle.decode.specs.Decode.{decodeAll, rest, DecodeStop}
 use Rattle.line_state.specs.State.{start}
 use Rattle.line_state.specs.Turn.{OrBad, turning}
 use Rattle.line_state.specs.Inner.{turnedIn}
 use Rattle.line_state.specs.declared.state.Line.{Line}
-use Rattle.line_state.specs.declared.state.MaybeLine.{MaybeLine}
 use Rattle.line_state.specs.declared.state.State.{State}
 use Rattle.line_state.specs.declared.turns.After.{After}
 use Rattle.line_state.specs.declared.turns.Turned.{Turned}

@@ -1,5 +1,5 @@
 -- The records from a place on, by the step that is taken there and what the annotation does to the state.
-use mathlib.Core.Path.{_≡_, refl, sym, _∙_, ap}
+use mathlib.Core.Path.{_≡_, refl, sym, ap}
 use mathlib.Core.List.{List, [], _∷_, _++_}
 use Prim.Native.Nat.{ℕ, suc, _+_, _*_, _≤_}
 use native.Mathlib.Nat.{add-assoc}
@@ -8,7 +8,7 @@ use lib.ListN.{length, length-append}
 use Rattle.outcome.specs.Outcome.{Outcome, ok, refused, _>>=_, _>>_, raise}
 use Rattle.numbers.specs.Refusal.{Stop}
 use Rattle.annotations.specs.Step.{PlacedTriple, annotation, end, stepAt}
-use Rattle.decode.specs.Decode.{Run, rest, DecodeStop, withPlace}
+use Rattle.decode.specs.Decode.{rest, DecodeStop, withPlace}
 use Rattle.decode.proofs.RunLaws.{rest-on, rest-end, rest-refused}
 use Rattle.line_state.specs.Turn.{turning}
 use Rattle.line_state.specs.declared.state.Line.{Line}

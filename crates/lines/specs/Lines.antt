@@ -6,7 +6,7 @@ use mathlib.Core.Option.{none}
 use lib.ListN.{length}
 use lib.Dec.{leb}
 use lib.IntN.{ℤ, pos, negsuc}
-use Rattle.outcome.specs.Outcome.{Outcome, ok, refused, _>>=_, _>>_, require, raise}
+use Rattle.outcome.specs.Outcome.{Outcome, ok, _>>=_, _>>_, require, raise}
 use Rattle.annotations.specs.Step.{PlacedTriple}
 use Rattle.decode.specs.Decode.{Run, decodeAll, DecodeStop, withPlace, noRoom}
 use Rattle.line_state.specs.State.{start, offsetOf}
@@ -17,7 +17,6 @@ use Rattle.line_state.specs.declared.state.Line.{Line}
 use Rattle.line_state.specs.declared.state.MaybeLine.{MaybeLine}
 use Rattle.line_state.specs.declared.state.MaybeLine.the-variants as maybe
 use Rattle.line_state.specs.declared.state.State.{State}
-use Rattle.line_state.specs.declared.turns.After.{After}
 
 -- ---- the records
 abbrev pub listed : MaybeLine → List Line

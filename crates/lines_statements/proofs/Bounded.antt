@@ -1,18 +1,17 @@
 -- The state's invariants, row by row, and the ends of the range.
 use mathlib.Core.Path.{_≡_, refl, sym, _∙_, ap}
-use mathlib.Core.Logic.{_↔_, _⊎_, inl, inr, ⊎-elim}
+use mathlib.Core.Logic.{inl, inr}
 use mathlib.Core.Bool.{Bool, true, false}
 use Prim.Native.Nat.{ℕ, zero, suc, _+_, _-_, _^_, _≤_, _<_}
 use native.Mathlib.Omega.{arith}
-use borrow.Author.Tests.{ltb-true, ltb-false, leb-true, lt-ltb, le-ltb}
-use lib.Dec.{ltb, leb, lt→ltb, ltb→lt}
+use borrow.Author.Tests.{ltb-true, ltb-false, le-ltb}
+use lib.Dec.{ltb, lt→ltb, ltb→lt}
 use lib.IntN.{ℤ, pos, negsuc, natAbs, _+ℤ_}
-use lib.Signed.{mag, ltZ, _<ℤ_}
-use Rattle.outcome.specs.Outcome.{Outcome, ok, refused, _>>=_, _>>_, require}
+use lib.Signed.{mag}
+use Rattle.outcome.specs.Outcome.{ok, refused, _>>=_, _>>_, require}
 use Rattle.outcome.proofs.OutcomeLaws.{ok-is, ok-refused}
 use Rattle.annotations.specs.Annotation.{triple}
-use Rattle.annotations.specs.declared.annotation.Triple.{Triple}
-use Rattle.line_state.specs.State.{start, offsetOf, withCode, withBase, withFile, withLine, withCount, withKind, withStart, withEnd}
+use Rattle.line_state.specs.State.{start, offsetOf, withCode, withLine, withEnd}
 use Rattle.line_state.specs.Turn.{OrBad, after, lineAt, summed, settled, closed, emission, lengthening, advancingLine, advancingEnd, emissionOnLine, turning}
 use Rattle.line_state.specs.declared.state.Position.{Position}
 use Rattle.line_state.specs.declared.state.Length.{Length}
@@ -22,7 +21,7 @@ use Rattle.line_state.specs.declared.state.MaybeLine.{MaybeLine}
 use Rattle.line_state.specs.declared.state.MaybeLine.the-variants as maybe
 use Rattle.line_state.specs.declared.state.State.{State}
 use Rattle.line_state.specs.declared.turns.After.{After}
-use Rattle.lines_statements.specs.Statements.{BoundedPosition, BoundedLine, BoundedState, Held, Bounded, Outside, Ends}
+use Rattle.lines_statements.specs.Statements.{BoundedPosition, BoundedLine, BoundedState, Bounded, Outside, Ends}
 use Rattle.lines_statements.proofs.Records.{some-is, some-none, settled-due, settled-set}
 
 -- ---- sums

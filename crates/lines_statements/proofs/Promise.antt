@@ -1,13 +1,10 @@
 -- The program is run over the annotations alone, and the closing step only passes its refusal on.
 use mathlib.Core.Path.{_≡_, refl, sym, _∙_, ap}
-use mathlib.Core.Bool.{Bool, true, false}
-use mathlib.Core.List.{List, [], _∷_, _++_, map}
-use Prim.Native.Nat.{ℕ, suc, _*_}
-use native.Mathlib.Omega.{arith}
-use lib.Dec.{leb}
+use mathlib.Core.List.{List, [], _∷_, map}
+use Prim.Native.Nat.{ℕ, suc}
 use lib.ListN.{length}
 use lib.IntN.{ℤ}
-use Rattle.outcome.specs.Outcome.{Outcome, ok, refused, _>>=_, _>>_, require, raise}
+use Rattle.outcome.specs.Outcome.{Outcome, ok, refused, _>>=_, _>>_, raise}
 use Rattle.outcome.specs.Refusal as paper
 use Rattle.outcome.specs.Store.{written}
 use Rattle.outcome.proofs.OutcomeLaws.{bind-same, ok-refused, refused-is}
@@ -19,8 +16,7 @@ use Rattle.line_state.specs.State.{start}
 use Rattle.line_state.specs.Turn.{turning}
 use Rattle.line_state.specs.declared.state.Line.{Line}
 use Rattle.line_state.specs.declared.state.State.{State}
-use Rattle.line_state.specs.declared.turns.After.{After}
-use Rattle.lines.specs.Lines.{listed, program, entries, running}
+use Rattle.lines.specs.Lines.{program, entries, running}
 use Rattle.lines_statements.specs.Statements.{triplesOf, closesAs, withoutPlace, OnlyThePromise}
 use Rattle.lines_statements.proofs.Runs.{answer, is-answer}
 use Rattle.lines_statements.proofs.Records.{head-is, tail-is, no-head}

@@ -4,16 +4,15 @@ use mathlib.Core.Bool.{Bool, true, false, cond, true≢false}
 use mathlib.Core.List.{List, [], _∷_, _++_, append-assoc}
 use Prim.Native.Nat.{ℕ, zero, suc, _+_, _-_, _≤_, _<_}
 use native.Mathlib.Omega.{arith}
-use borrow.Author.Tests.{leb-true, ne-eqb, eq-eqb}
+use borrow.Author.Tests.{leb-true, ne-eqb}
 use lib.ListN.{length, length-append, List·getD-append}
 use lib.Seq.{getD-append-seam, getD-append-add}
 use lib.Dec.{leb}
 use lib.IntN.{ℤ, natAbs}
-use Rattle.outcome.specs.Outcome.{Outcome, ok, refused, _>>_, require}
+use Rattle.outcome.specs.Outcome.{ok, _>>_, require}
 use Rattle.outcome.proofs.OutcomeLaws.{ok-is, ok-refused}
 use Rattle.annotations.specs.Annotation.{emits}
 use Rattle.annotations.specs.Step.{PlacedTriple}
-use Rattle.decode.specs.Decode.{decodeAll}
 use Rattle.line_state.specs.State.{start, offsetOf}
 use Rattle.line_state.specs.Turn.{OrBad, lineAt, settled, turning}
 use Rattle.line_state.specs.declared.state.Position.{Position}
@@ -24,12 +23,12 @@ use Rattle.line_state.specs.declared.state.MaybeLine.{MaybeLine}
 use Rattle.line_state.specs.declared.state.MaybeLine.the-variants as maybe
 use Rattle.line_state.specs.declared.state.State.{State}
 use Rattle.line_state.specs.declared.turns.After.{After}
-use Rattle.lines.specs.Lines.{listed, running}
+use Rattle.lines.specs.Lines.{listed}
 use Rattle.lines_statements.specs.Runs.{Runs, none, more, RunsTo}
 use Rattle.lines_statements.specs.Statements.{emitting, AsMany, lineOf, ownLength, given, HasLength, Lengths}
 use Rattle.lines.proofs.ProgramLaws.{listed-few}
 use Rattle.lines_statements.proofs.Runs.{run-exactly}
-use Rattle.lines_statements.proofs.TurnKinds.{Kind, bad, leaves, sets, begins, closes, afterOf, own, turn-kind}
+use Rattle.lines_statements.proofs.TurnKinds.{Kind, bad, leaves, sets, begins, closes, own, turn-kind}
 
 -- ---- what a turn does, by its kind
 abbrev held : MaybeLine → ℕ

@@ -1,15 +1,11 @@
 -- Each answer can be read back from what it says on paper, so no two answers say the same, and the promise has one answer.
-use mathlib.Core.Path.{_≡_, refl, sym, _∙_, ap}
-use mathlib.Core.List.{List}
+use mathlib.Core.Path.{_≡_, sym, ap}
 use mathlib.Core.Option.{Option, none, some}
 use Prim.Native.Nat.{ℕ}
 use native.Mathlib.Omega.{arith}
 use lib.ListN.{length}
-use Rattle.outcome.specs.Outcome.{Outcome, ok, refused}
-use Rattle.outcome.specs.Refusal as paper
 use Rattle.outcome.proofs.OnlyLaws.{only₂}
 use Rattle.outcome.proofs.OutcomeLaws.{ok-is, ok-refused, refused-is}
-use Rattle.numbers.specs.Refusal.{stopIn}
 use Rattle.numbers.specs.declared.refusal.PlacedRefusal.{PlacedRefusal}
 use Rattle.annotations_statements.proofs.Told as annotations
 use Rattle.decode.specs.Decode.{DecodeStop}

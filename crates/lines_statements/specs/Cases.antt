@@ -9,7 +9,6 @@ use Rattle.annotations.specs.Annotation.{triple}
 use Rattle.decode.specs.Decode.{DecodeStop}
 use Rattle.line_state.specs.State.{start, withLine, withEnd}
 use Rattle.line_state.specs.Turn.{OrBad, turning}
-use Rattle.line_state.specs.declared.state.Line.{Line}
 use Rattle.line_state.specs.declared.state.State.{State}
 use Rattle.line_state.specs.declared.turns.After.{After}
 use Rattle.lines.specs.Lines.{lineEntries, running}

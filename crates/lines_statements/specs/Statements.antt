@@ -1,7 +1,7 @@
 -- Statements about line programs beyond the promise of `run_lines`. proofs/ has a proof of each record.
 use mathlib.Core.Path.{_≡_}
 use mathlib.Core.Logic.{_↔_, _⊎_}
-use mathlib.Core.Bool.{Bool, true, false, cond}
+use mathlib.Core.Bool.{true, cond}
 use mathlib.Core.List.{List, [], _∷_, _++_, map}
 use Prim.Native.Nat.{ℕ, suc, _+_, _-_, _^_, _≤_, _<_}
 use lib.Dec.{eqb}
@@ -23,7 +23,6 @@ use Rattle.line_state.specs.declared.state.Position.{Position}
 use Rattle.line_state.specs.declared.state.Length.{Length}
 use Rattle.line_state.specs.declared.state.Length.the-variants as length
 use Rattle.line_state.specs.declared.state.Line.{Line}
-use Rattle.line_state.specs.declared.state.MaybeLine.{MaybeLine}
 use Rattle.line_state.specs.declared.state.MaybeLine.the-variants as maybe
 use Rattle.line_state.specs.declared.state.State.{State}
 use Rattle.line_state.specs.declared.turns.After.{After}

@@ -1,47 +1,37 @@
+-- The tests are those of `closed` and `settled`, in their order.
+-- Assumes nothing.
 use borrow.Author.Needs.{needs}
 use Rattle.line_state.proofs.TurnLaws.{close-cases}
 use Rattle.line_state.proofs.turns.close.Statement.{statement}
 use Rattle.line_state.proofs.turns.close.Tie as tie
-use Rattle.line_state.proofs.turns.close.Reads as reads
-use Rattle.line_state.proofs.turns.close.Lts as lts
-use Rattle.line_state.proofs.state.Position.offset.Reads as offset-reads
 
--- src/turns.rt:141:25
 enum-known-last : tie.Need-enum-known-last
 enum-known-last c = search needs
 
--- src/turns.rt:144:21
 enum-told : tie.Need-enum-told
 enum-told c = search needs
 
--- src/turns.rt:142:9
 returns : tie.Need-returns
 returns c = search close-cases
 
 enum-told-2 : tie.Need-enum-told-2
 enum-told-2 c = search needs
 
--- src/turns.rt:151:21
 enum-told-3 : tie.Need-enum-told-3
 enum-told-3 c = search needs
 
--- src/turns.rt:149:9
 returns-2 : tie.Need-returns-2
 returns-2 c = search close-cases
 
--- src/turns.rt:155:9
 offset-requires : tie.Need-offset-requires
 offset-requires c κs = search needs
 
--- src/turns.rt:158:9
 returns-3 : tie.Need-returns-3
 returns-3 c = search close-cases
 
--- src/turns.rt:165:35
 cast-t15 : tie.Need-cast-t15
 cast-t15 c = search needs
 
--- src/turns.rt:138:1
 returns-4 : tie.Need-returns-4
 returns-4 c = search close-cases
 
