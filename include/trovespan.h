@@ -151,7 +151,7 @@ uint32_t trovespan_decode(const uint8_t *bytes, size_t bytes_len, int64_t *store
  *     1         sets the code offset
  *     2         sets the base
  *     3         advances the code offset, and emits a record
- *     4         sets the length of the record before it
+ *     4         sets the length of the record before it; the code offset stays
  *     5         sets the file
  *     6         advances the line
  *     7         sets the line count
@@ -164,6 +164,10 @@ uint32_t trovespan_decode(const uint8_t *bytes, size_t bytes_len, int64_t *store
  *
  * If a record has no length when the next one is emitted, it gets the difference of their offsets. So only the last may
  * have none.
+ *
+ * 4 does not move the code offset here. LLVM, and the crate pdb where it evaluates line programs, move it by 4's length,
+ * and clang counts on that: in most programs that clang writes, records after a 4 begin too early here, by the lengths
+ * that 4 set before them. See docs/LINES.md of the repository before you map addresses to lines.
  *
  * Refuses with the first refusal met, annotation after annotation: that of a step, and then `place` is the place after
  * it; or 25, if the offset of an emitted record takes more than 32 bits, or is below that of the record before it while

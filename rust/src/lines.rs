@@ -18,6 +18,13 @@ pub const LINE_ENTRIES: usize = 8;
 /// A record has a length if its own annotation gives it one, or a later one sets it. Else it gets one when the next
 /// record is emitted: the difference of their offsets. So only the last record may have none.
 ///
+/// # Offsets after opcode 4
+///
+/// `ChangeCodeLength` (4) sets a length and does not move the code offset. LLVM, and the crate pdb where it evaluates
+/// line programs, move it by that length, and clang counts on that: in most programs that clang writes, records after a
+/// 4 begin too early here, by the lengths that 4 set before them. See docs/LINES.md of the repository before you map
+/// addresses to lines.
+///
 /// # Errors
 ///
 /// Refuses with the first refusal met, annotation after annotation: with 7, 8 or 9 as [`decode`] does, and with 25 and
@@ -54,7 +61,7 @@ pub fn run_lines(bytes: &[u8], store: &mut [i64]) -> Result<usize, DecodeRefusal
 /// A line record: which lines of which file a piece of code comes from.
 #[derive(Clone, Copy, Debug, PartialEq, Eq, Hash)]
 pub struct LineRecord {
-    /// Where the code begins.
+    /// Where the code begins, as [`run_lines`] counts it.
     pub offset: u32,
     /// The number of bytes of the code. `None` if the line program does not say it.
     pub length: Option<u32>,
