@@ -2,6 +2,7 @@
 use mathlib.Core.Path.{_≡_, refl, sym, _∙_, ap}
 use mathlib.Core.Logic.{inl, inr}
 use mathlib.Core.Bool.{Bool, true, false}
+use mathlib.Core.List.{List, [], _∷_}
 use Prim.Native.Nat.{ℕ, zero, suc, _+_, _-_, _^_, _≤_, _<_}
 use native.Mathlib.Omega.{arith}
 use borrow.Author.Tests.{ltb-true, ltb-false, le-ltb}
@@ -11,6 +12,7 @@ use lib.Signed.{mag}
 use Rattle.outcome.specs.Outcome.{ok, refused, _>>=_, _>>_, require}
 use Rattle.outcome.proofs.OutcomeLaws.{ok-is, ok-refused}
 use Rattle.annotations.specs.Annotation.{triple}
+use Rattle.annotations.specs.Step.{PlacedTriple}
 use Rattle.line_state.specs.State.{start, offsetOf, withCode, withLine, withEnd}
 use Rattle.line_state.specs.Turn.{OrBad, after, lineAt, summed, settled, closed, emission, lengthening, advancingLine, advancingEnd, emissionOnLine, turning}
 use Rattle.line_state.specs.declared.state.Position.{Position}
@@ -21,7 +23,9 @@ use Rattle.line_state.specs.declared.state.MaybeLine.{MaybeLine}
 use Rattle.line_state.specs.declared.state.MaybeLine.the-variants as maybe
 use Rattle.line_state.specs.declared.state.State.{State}
 use Rattle.line_state.specs.declared.turns.After.{After}
-use Rattle.lines_statements.specs.Statements.{BoundedPosition, BoundedLine, BoundedState, Bounded, Outside, Ends}
+use Rattle.lines_statements.specs.Statements.{AllHeld, BoundedPosition, BoundedLine, BoundedState, Bounded, Outside, Ends}
+use Rattle.lines_statements.specs.Statements as held
+use Rattle.lines_statements.specs.Runs.{Runs, none, more}
 use Rattle.lines_statements.proofs.Records.{some-is, some-none, settled-due, settled-set}
 
 -- ---- sums
@@ -153,14 +157,23 @@ module _ (s : State) (b : BoundedState s) (first second : ℤ) (h : (natAbs firs
       plain _ (with-end (pos (natAbs first)) (omega (arith, h .0)))
   row (suc (suc (suc (suc (suc (suc (suc (suc (suc (suc (suc (suc (suc (suc n)))))))))))))) = leaves-none
 
+all-held : (found : List PlacedTriple) (s : State) {t : State} {closed : List Line} → AllHeld found → Runs s found t closed → BoundedState s → BoundedState t
+all-held [] s h none b = b
+all-held (x ∷ later) s (held.more h k) (more {a} e r) b =
+    all-held later (a .state) k r (row s b (x .triple .first) (x .triple .second) h (x .triple .opcode) a e .0)
+
+begins : BoundedState start
+begins =
+    record {
+      at = record { code = omega arith; base = omega arith; file = omega arith; line = omega arith; count = omega arith; kind = omega arith; start = omega arith; end = omega arith };
+      last = λ l e. absurd (some-none (sym e));
+    }
+
 pub bounded : Bounded
 bounded =
     record {
-      begins =
-          record {
-            at = record { code = omega arith; base = omega arith; file = omega arith; line = omega arith; count = omega arith; kind = omega arith; start = omega arith; end = omega arith };
-            last = λ l e. absurd (some-none (sym e));
-          };
+      begins = begins;
+      runs = λ found t closed h r. all-held found start h r begins;
       turns = λ s t a b h e. row s b (t .first) (t .second) h (t .opcode) a e;
     }
 

@@ -133,8 +133,14 @@ pub record BoundedState (s : State) : Type 0 where
 abbrev pub Held : Triple → Type 0
 Held t = (natAbs (t .first) < 2 ^ 29) × (natAbs (t .second) < 2 ^ 29)
 
+pub data AllHeld : List PlacedTriple → Type 0 where
+  none : AllHeld []
+  more : {x : PlacedTriple} {later : List PlacedTriple} → Held (x .triple) → AllHeld later → AllHeld (x ∷ later)
+
 pub record Bounded : Type 0 where
   pub begins : BoundedState start
+  pub runs : (found : List PlacedTriple) (t : State) (closed : List Line) → AllHeld found → Runs start found t closed
+      → BoundedState t
   pub turns : (s : State) (t : Triple) (a : After) → BoundedState s → Held t → turning s t ≡ ok a
       → BoundedState (a .state) × ((l : Line) → a .closed ≡ maybe.Some l → BoundedLine l)
 
