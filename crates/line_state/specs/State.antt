@@ -17,28 +17,33 @@ start =
 abbrev pub offsetOf : Position → ℕ
 offsetOf p = p .base + p .code
 
--- a position with one number changed
+-- a position by its numbers, in order
+abbrev pub position : ℕ → ℕ → ℕ → ℤ → ℕ → ℕ → ℕ → ℤ → Position
+position code base file line count kind start end =
+    record { code = code; base = base; file = file; line = line; count = count; kind = kind; start = start; end = end }
+
+-- a position with one of them changed
 module _ (p : Position) where
   abbrev pub withCode : ℕ → Position
-  withCode v = record { code = v; base = p .base; file = p .file; line = p .line; count = p .count; kind = p .kind; start = p .start; end = p .end }
+  withCode v = position v (p .base) (p .file) (p .line) (p .count) (p .kind) (p .start) (p .end)
 
   abbrev pub withBase : ℕ → Position
-  withBase v = record { code = p .code; base = v; file = p .file; line = p .line; count = p .count; kind = p .kind; start = p .start; end = p .end }
+  withBase v = position (p .code) v (p .file) (p .line) (p .count) (p .kind) (p .start) (p .end)
 
   abbrev pub withFile : ℕ → Position
-  withFile v = record { code = p .code; base = p .base; file = v; line = p .line; count = p .count; kind = p .kind; start = p .start; end = p .end }
+  withFile v = position (p .code) (p .base) v (p .line) (p .count) (p .kind) (p .start) (p .end)
 
   abbrev pub withLine : ℤ → Position
-  withLine z = record { code = p .code; base = p .base; file = p .file; line = z; count = p .count; kind = p .kind; start = p .start; end = p .end }
+  withLine z = position (p .code) (p .base) (p .file) z (p .count) (p .kind) (p .start) (p .end)
 
   abbrev pub withCount : ℕ → Position
-  withCount v = record { code = p .code; base = p .base; file = p .file; line = p .line; count = v; kind = p .kind; start = p .start; end = p .end }
+  withCount v = position (p .code) (p .base) (p .file) (p .line) v (p .kind) (p .start) (p .end)
 
   abbrev pub withKind : ℕ → Position
-  withKind v = record { code = p .code; base = p .base; file = p .file; line = p .line; count = p .count; kind = v; start = p .start; end = p .end }
+  withKind v = position (p .code) (p .base) (p .file) (p .line) (p .count) v (p .start) (p .end)
 
   abbrev pub withStart : ℕ → Position
-  withStart v = record { code = p .code; base = p .base; file = p .file; line = p .line; count = p .count; kind = p .kind; start = v; end = p .end }
+  withStart v = position (p .code) (p .base) (p .file) (p .line) (p .count) (p .kind) v (p .end)
 
   abbrev pub withEnd : ℤ → Position
-  withEnd z = record { code = p .code; base = p .base; file = p .file; line = p .line; count = p .count; kind = p .kind; start = p .start; end = z }
+  withEnd z = position (p .code) (p .base) (p .file) (p .line) (p .count) (p .kind) (p .start) z

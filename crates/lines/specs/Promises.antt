@@ -1,4 +1,5 @@
--- The promise of `run_lines`: the whole answer, as document 01 and request 2026-07 number it, and the lent store at exit.
+-- The promise of `run_lines`: the whole answer, as document 01 and request 2026-07 number it, and the lent store at
+-- exit.
 use mathlib.Core.Path.{_≡_}
 use mathlib.Core.List.{List}
 use mathlib.Core.Option.{Option, none, some}

@@ -1,5 +1,5 @@
-// Runs the annotations twice. The first pass has no room for a record, so it only counts them, and a refusal has written
-// nothing. The second writes them.
+// Runs the annotations twice. The first pass has no room for a record, so it only counts them, and a refusal has
+// written nothing. The second writes them.
 use crate::entries::ENTRIES_EACH;
 use crate::entries::put;
 use crate::refusal::Refusal;

@@ -68,7 +68,8 @@ pub record Cases : Type 0 where
   -- both ends of 64 bits, for the line and for the end column
   pub highest : turning (onLine (pos (2 ^ 63 - 2))) (triple 6 (pos 1) (pos 0)) ≡ goesOn (onLine (pos (2 ^ 63 - 1)))
   pub too-high : turning (onLine (pos (2 ^ 63 - 1))) (triple 6 (pos 1) (pos 0)) ≡ refused tt
-  pub lowest : turning (onLine (negsuc (2 ^ 63 - 2))) (triple 6 (negsuc 0) (pos 0)) ≡ goesOn (onLine (negsuc (2 ^ 63 - 1)))
+  pub lowest : turning (onLine (negsuc (2 ^ 63 - 2))) (triple 6 (negsuc 0) (pos 0))
+      ≡ goesOn (onLine (negsuc (2 ^ 63 - 1)))
   pub too-low : turning (onLine (negsuc (2 ^ 63 - 1))) (triple 11 (pos 0) (negsuc 0)) ≡ refused tt
   pub column-high : turning (toColumn (pos (2 ^ 63 - 1))) (triple 10 (pos 1) (pos 0)) ≡ refused tt
   pub column-low : turning (toColumn (negsuc (2 ^ 63 - 1))) (triple 10 (negsuc 0) (pos 0)) ≡ refused tt

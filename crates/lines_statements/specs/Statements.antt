@@ -69,7 +69,7 @@ given n (x ∷ later) =
     cond (emits (x .triple .opcode)) n
     (given (cond (eqb (x .triple .opcode) 4) (length.Bytes (natAbs (x .triple .first))) n) later)
 
--- the record that x emits, where it emits as many as `before` does come first
+-- the record that x emits. As many come first as `before` emits
 pub record HasLength (before later : List PlacedTriple) (x : PlacedTriple) (lines : List Line) : Type 0 where
   -- what is given stays
   pub set : (n : ℕ) → given (ownLength (x .triple)) later ≡ length.Bytes n
@@ -101,8 +101,8 @@ closesAs s = raise (λ (x : Stop). x .refusal) (decodeAll s .last >> ok tt)
 abbrev pub withoutPlace : Outcome DecodeStop (List Line) → Outcome paper.Refusal (List Line)
 withoutPlace o = raise (λ (x : DecodeStop). x .refusal) o
 
--- two byte strings with the same annotations and the same closing step, but for its place, have the same answer, but for
--- the place, and the same store
+-- two byte strings with the same annotations and the same closing step, but for its place, have the same answer, but
+-- for the place, and the same store
 pub record OnlyThePromise : Type 0 where
   pub answer : (s t : List ℕ) (room : ℕ) → triplesOf s ≡ triplesOf t → closesAs s ≡ closesAs t
       → withoutPlace (running s room) ≡ withoutPlace (running t room)
