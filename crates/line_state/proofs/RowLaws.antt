@@ -76,8 +76,6 @@ module _ (s : State) (v w : ℕ) where
   unfolding turning annotationOf
   row-13 = refl
 
-pub ruleset rows = (row-1, row-2, row-3, row-4, row-5, row-6, row-7, row-8, row-9, row-10, row-11, row-12, row-13)
-
 -- an opcode that is none of these is refused
 pub row-other : (s : State) (v w : ℕ) {op : ℕ} → (op ≡ 1 → ⊥) → (op ≡ 2 → ⊥) → (op ≡ 3 → ⊥) → (op ≡ 4 → ⊥) → (op ≡ 5 → ⊥) → (op ≡ 6 → ⊥) → (op ≡ 7 → ⊥) → (op ≡ 8 → ⊥) → (op ≡ 9 → ⊥) → (op ≡ 10 → ⊥) → (op ≡ 11 → ⊥) → (op ≡ 12 → ⊥) → (op ≡ 13 → ⊥) → refused tt ≡ turning s (annotationOf op v w)
 unfolding turning annotationOf
@@ -129,5 +127,3 @@ module _ (s : State) (v w : ℕ) {op : ℕ} {x : OrBad After} {z : ℤ} where
 
   pub turned-end : op ≡ 13 → z ≡ pos v → mag z < 2 ^ 63 → {q : Position} → q ≡ withEnd (s .at) (toZ w64 (ofZ w64 z)) → x ≡ on s q → x ≡ turning s (annotationOf op v w)
   turned-end e i m h f = turned-on s v w e f (h ∙ ap (withEnd (s .at)) (stored m ∙ i)) (row-13 s v w)
-
-pub ruleset signed-rows = (turned-line, turned-column, turned-both, turned-end)

@@ -1,7 +1,7 @@
 -- Each arm knows the opcode, and its call answers that row of `turning`. An opcode of no arm is of no row either.
 -- Assumes nothing.
 use borrow.Author.Needs.{needs}
-use Rattle.line_state.proofs.RowLaws.{rows, row-other, turned-as, turned-on, signed-rows}
+use Rattle.line_state.proofs.RowLaws.{row-1, row-2, row-3, row-4, row-5, row-7, row-8, row-9, row-12, row-other, turned-as, turned-on, turned-line, turned-column, turned-both, turned-end}
 use Rattle.line_state.proofs.turns.turn.Statement.{statement}
 use Rattle.line_state.proofs.turns.turn.Tie as tie
 
@@ -78,43 +78,43 @@ on-requires-7 : tie.Need-on-requires-7
 on-requires-7 c κs = search needs
 
 returns : tie.Need-returns
-returns c = search (turned-on, rows)
+returns c = search (turned-on, row-1)
 
 returns-2 : tie.Need-returns-2
-returns-2 c = search (turned-on, rows)
+returns-2 c = search (turned-on, row-2)
 
 returns-3 : tie.Need-returns-3
-returns-3 c = search (turned-as, rows)
+returns-3 c = search (turned-as, row-3)
 
 returns-4 : tie.Need-returns-4
-returns-4 c = search (turned-as, rows)
+returns-4 c = search (turned-as, row-4)
 
 returns-5 : tie.Need-returns-5
-returns-5 c = search (turned-on, rows)
+returns-5 c = search (turned-on, row-5)
 
 returns-6 : tie.Need-returns-6
-returns-6 c = search signed-rows
+returns-6 c = search turned-line
 
 returns-7 : tie.Need-returns-7
-returns-7 c = search (turned-on, rows)
+returns-7 c = search (turned-on, row-7)
 
 returns-8 : tie.Need-returns-8
-returns-8 c = search (turned-on, rows)
+returns-8 c = search (turned-on, row-8)
 
 returns-9 : tie.Need-returns-9
-returns-9 c = search (turned-on, rows)
+returns-9 c = search (turned-on, row-9)
 
 returns-10 : tie.Need-returns-10
-returns-10 c = search signed-rows
+returns-10 c = search turned-column
 
 returns-11 : tie.Need-returns-11
-returns-11 c = search signed-rows
+returns-11 c = search turned-both
 
 returns-12 : tie.Need-returns-12
-returns-12 c = search (turned-as, rows)
+returns-12 c = search (turned-as, row-12)
 
 returns-13 : tie.Need-returns-13
-returns-13 c = search signed-rows
+returns-13 c = search turned-end
 
 returns-14 : tie.Need-returns-14
 returns-14 c = search row-other
