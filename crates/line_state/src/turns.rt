@@ -11,7 +11,7 @@ use annotations::decode_signed_operand;
 use annotations::long;
 use annotations::wide;
 ghost use mathlib.Core.Path.{_≡_};
-ghost use Prim.Native.Nat.{_+_, _<_};
+ghost use Prim.Native.Nat.{_+_};
 ghost use Rattle.annotations.specs.Annotation.{annotationOf};
 ghost use Rattle.line_state.specs.State.{withCode};
 ghost use Rattle.line_state.specs.Turn.{after, emission, lengthening, advancingLine, advancingEnd, emissionOnLine, turning};
