@@ -4,13 +4,13 @@ use Prim.Native.Nat.{ℕ, zero, suc, _+_, _/_, _%_, _^_, _<_}
 use borrow.Author.Tests.{ne-eqb}
 use lib.IntN.{ℤ, pos}
 use lib.Signed.{mag}
-use mir.Syntax.{w32, w64}
-use mir.Val.{toZ, ofZ}
 use mir.Facts.{toZ-ofZ}
 use Rattle.outcome.specs.Outcome.{refused}
 use Rattle.annotations.specs.Signed.{signedOf}
 use Rattle.annotations.specs.Annotation.{triple, annotationOf}
 use Rattle.annotations.proofs.AnnotationLaws.{stored}
+use Rattle.line_state.proofs.SumLaws.{kept}
+use Rattle.line_state.proofs.TurnLaws.{read}
 use Rattle.line_state.specs.State.{withCode, withBase, withFile, withCount, withKind, withStart, withEnd}
 use Rattle.line_state.specs.Turn.{OrBad, after, emission, lengthening, advancingLine, advancingEnd, emissionOnLine, turning}
 use Rattle.line_state.specs.declared.state.Position.{Position}
@@ -108,9 +108,6 @@ module _ (s : State) (v w : ℕ) {op : ℕ} {x : OrBad After} where
   turned-on e f h g = turned-as e (f ∙ ap (on s) h) g
 
 -- the operand of 6, 10 or 11 is read back from its bits, and so is the column of 13
-abbrev read : ℤ → ℤ
-read z = toZ w32 (ofZ w32 z)
-
 is-read : {z : ℤ} → mag z < 2 ^ 31 → read z ≡ z
 is-read h = toZ-ofZ (record { sfits = h })
 
@@ -125,5 +122,5 @@ module _ (s : State) (v w : ℕ) {op : ℕ} {x : OrBad After} {z : ℤ} where
     pub turned-both : op ≡ 11 → z ≡ signedOf (v / 16) → x ≡ emissionOnLine (s .last) (s .at) (v % 16) (read z) → x ≡ turning s (annotationOf op v w)
     turned-both e i f = turned-as s v w e (f ∙ ap (emissionOnLine (s .last) (s .at) (v % 16)) (is-read h ∙ i)) (row-11 s v w)
 
-  pub turned-end : op ≡ 13 → z ≡ pos v → mag z < 2 ^ 63 → {q : Position} → q ≡ withEnd (s .at) (toZ w64 (ofZ w64 z)) → x ≡ on s q → x ≡ turning s (annotationOf op v w)
+  pub turned-end : op ≡ 13 → z ≡ pos v → mag z < 2 ^ 63 → {q : Position} → q ≡ withEnd (s .at) (kept z) → x ≡ on s q → x ≡ turning s (annotationOf op v w)
   turned-end e i m h f = turned-on s v w e f (h ∙ ap (withEnd (s .at)) (stored m ∙ i)) (row-13 s v w)

@@ -99,7 +99,8 @@ high (negsuc a) (pos (suc b)) h k e =
     })
 
 -- ---- the returns of `advanced`
-abbrev kept : ℤ → ℤ
+-- a number that the machine stored and read back
+abbrev pub kept : ℤ → ℤ
 kept z = toZ w64 (ofZ w64 z)
 
 module _ (z by : ℤ) where

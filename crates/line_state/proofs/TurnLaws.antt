@@ -5,11 +5,12 @@ use native.Mathlib.Omega.{arith}
 use borrow.Author.Tests.{lt-ltb, le-ltb, le-leb, lt-leb}
 use lib.IntN.{ℤ}
 use lib.Signed.{mag}
-use mir.Syntax.{w32, w64}
+use mir.Syntax.{w32}
 use mir.Val.{toZ, ofZ}
 use mir.Facts.{toZ-ofZ}
 use Rattle.outcome.specs.Outcome.{ok, refused, _>>=_, _>>_, require}
 use Rattle.annotations.proofs.AnnotationLaws.{stored}
+use Rattle.line_state.proofs.SumLaws.{kept}
 use Rattle.line_state.specs.State.{offsetOf, withCode, withLine, withEnd}
 use Rattle.line_state.specs.Turn.{OrBad, after, lineAt, summed, settled, closed, emission, lengthening, advancingLine, advancingEnd, emissionOnLine}
 use Rattle.line_state.specs.Inner.{sumIn, closing}
@@ -74,10 +75,7 @@ module _ (p : Position) (n : ℕ) {last : MaybeLine} where
 pub ruleset length-cases = (length-none, length-set)
 
 -- ---- sums: a number and an operand, each read back from its bits
-abbrev kept : ℤ → ℤ
-kept z = toZ w64 (ofZ w64 z)
-
-abbrev read : ℤ → ℤ
+abbrev pub read : ℤ → ℤ
 read by = toZ w32 (ofZ w32 by)
 
 module _ (z by : ℤ) (m : mag z < 2 ^ 63) (n : mag by < 2 ^ 31) {y : ℤ} (d : y ≡ read by) {x : OrBad ℤ} (f : x ≡ summed (kept z) (kept y)) where

@@ -9,9 +9,10 @@ use lib.Seq.{sets, length-sets}
 use lib.IntN.{ℤ, pos, negsuc}
 use lib.Signed.{mag}
 use mir.Syntax.{w64}
-use mir.Val.{toZ, ofZ}
+use mir.Val.{toZ}
 use mir.Facts.{toZ-pos}
 use Rattle.annotations.proofs.AnnotationLaws.{stored}
+use Rattle.line_state.proofs.SumLaws.{kept}
 use Rattle.line_state.specs.State.{offsetOf}
 use Rattle.line_state.specs.declared.state.Length.{Length}
 use Rattle.line_state.specs.declared.state.Length.the-variants as length
@@ -20,9 +21,6 @@ use Rattle.line_state.specs.declared.state.MaybeLine.{MaybeLine}
 use Rattle.line_state.specs.declared.state.MaybeLine.the-variants as maybe
 use Rattle.lines.specs.Lines.{listed, lengthEntry, lineEntries, entries}
 use Rattle.lines.specs.Inner.{Appending}
-
-abbrev kept : ℤ → ℤ
-kept z = toZ w64 (ofZ w64 z)
 
 -- ---- `entry_of`
 module _ {n : Length} where
