@@ -106,7 +106,7 @@ kept z = toZ w64 (ofZ w64 z)
 module _ (z by : ℤ) where
   too-far : 2 ^ 63 ≤ mag (z +ℤ by) → sumIn Outside ≡ summed z by
   unfolding summed _>>_ require
-  too-far h = rw (le-ltb (mag (z +ℤ by)) (2 ^ 63) h)
+  too-far h = rw le-ltb
 
   in-range : mag (z +ℤ by) < 2 ^ 63 → sumIn (Is (z +ℤ by)) ≡ summed z by
   unfolding summed _>>_ require

@@ -54,11 +54,11 @@ pub ruleset close-cases = (close-none, close-set, close-falling, close-due)
 module _ (last : MaybeLine) (p : Position) (by : ℕ) (own : Length) where
   pub emit-far : 2 ^ 32 - 1 < p .base + (p .code + by) → refused tt ≡ emission last (withCode p (p .code + by)) own
   unfolding emission _>>_ require
-  emit-far h = rw (le-ltb (p .base + (p .code + by)) (2 ^ 32) (omega arith))
+  emit-far h = rw (le-ltb (offsetOf (withCode p (p .code + by))) (2 ^ 32) (omega arith))
 
   pub emit-here : {here : Position} → here ≡ withCode p (p .code + by) → p .base + (p .code + by) ≤ 2 ^ 32 - 1 → {x : OrBad After} → x ≡ closing last (record { at = here; last = maybe.Some (lineAt here own) }) (p .base + (p .code + by)) → x ≡ emission last (withCode p (p .code + by)) own
   unfolding emission closing _>>_ _>>=_ require
-  emit-here e h f = f ∙ rw (e, lt-ltb (p .base + (p .code + by)) (2 ^ 32) (omega arith))
+  emit-here e h f = f ∙ rw (e, lt-ltb (offsetOf (withCode p (p .code + by))) (2 ^ 32) (omega arith))
 
 pub ruleset emit-cases = (emit-far, emit-here)
 
