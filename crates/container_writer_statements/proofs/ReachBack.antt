@@ -20,7 +20,7 @@ use Rattle.paged.proofs.FitLaws.{fits-by}
 use Rattle.header.specs.Header.{bigMagic, standsAt, headerBlock, headerOf, words, sized, headed, located, opening}
 use Rattle.header.proofs.BlockLaws.{stands-same}
 use Rattle.header.specs.declared.Header.{Header}
-use Rattle.directory.specs.Directory.{reached, holds, streamCount}
+use Rattle.directory.specs.Directory.{listed, reached, holds, streamCount}
 use Rattle.container_layout.specs.Place.{dataPage}
 use Rattle.container_layout.specs.Layout.{streamPages, directorySize, directoryPages, pagesUsed, fileLength}
 use Rattle.container_layout.proofs.PlaceLaws.{data-least}
@@ -96,7 +96,7 @@ module _ {p : ℕ} {sizes bytes : List ℕ} (a : Accepted p sizes (length bytes)
 
   -- ---- steps 4 and 5
   pub reached-back : reached f len ≡ ok header-of
-  unfolding reached _>>=_ _>>_
+  unfolding listed reached _>>=_ _>>_
   reached-back =
       rw (
         located-back,

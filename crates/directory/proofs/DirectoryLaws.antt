@@ -1,4 +1,5 @@
--- The ways out of steps 4 and 5 and of the stream count; what a reached directory is known to be.
+-- The ways out of steps 4 and 5 and of the stream count; what is known of a list that was read and of a directory that was
+-- reached.
 use mathlib.Core.Path.{_≡_, sym, _∙_, ap}
 use Prim.Native.Nat.{ℕ, _+_, _*_, _^_, _≤_, _<_}
 use native.Mathlib.Omega.{arith}
@@ -25,16 +26,16 @@ use Rattle.header.proofs.OpenLaws.{is-located}
 use Rattle.header.specs.declared.Header.{Header}
 use Rattle.header.specs.declared.Headed.{Headed}
 use Rattle.header.specs.declared.Headed.the-variants.{Container, Refused}
-use Rattle.directory.specs.Directory.{reached, streamCount}
-use Rattle.directory.specs.Inner.{Reaching}
+use Rattle.directory.specs.Directory.{listed, reached, streamCount}
+use Rattle.directory.specs.Inner.{Listing, Reaching}
 use Rattle.directory.specs.Promises.{countedIn, Counting}
 use Rattle.directory.specs.declared.Counted.the-variants as counted
 
--- ---- steps 4 and 5
+-- ---- step 4
 module _ {f : File} {len : ℕ} {r : Headed} (p : Locating f len r) where
-  pub reach-refused : {why : Refusal} → r ≡ Refused why → Reaching f len r
-  unfolding reached headedIn _>>=_
-  reach-refused e =
+  pub list-refused : {why : Refusal} → r ≡ Refused why → Listing f len r
+  unfolding listed headedIn _>>=_
+  list-refused e =
       let k : located f len ≡ refused _ = sym (p .answer) ∙ ap headedIn e in
       record { answer = ap headedIn e ∙ rw k }
 
@@ -43,12 +44,12 @@ module _ {f : File} {len : ℕ} {r : Headed} (p : Locating f len r) where
     unfolding headedIn
     located-is = sym (p .answer) ∙ ap headedIn e
 
-    pub reach-size : PageSize (h .pagesize)
-    reach-size = is-located f len located-is .size
+    pub list-size : PageSize (h .pagesize)
+    list-size = is-located f len located-is .size
 
     module _ {d : ℕ} (pd : d ≡ directoryPages h) where
       few-pages : d ≤ h .directory
-      few-pages = let l = reach-size .least in rw pd (need-le (h .pagesize) (h .directory) (omega arith))
+      few-pages = let l = list-size .least in rw pd (need-le (h .pagesize) (h .directory) (omega arith))
 
       -- what the code's sums and calls ask, of a directory_size of 32 bits
       module _ (b : h .directory < 2 ^ 32) where
@@ -72,42 +73,97 @@ module _ {f : File} {len : ℕ} {r : Headed} (p : Locating f len r) where
             location-lies f len (h .pagesize) (let long = at .long in omega arith)
 
         module _ (c₁ : Checked) (e₁ : checkedIn c₁ ≡ liesInFile len (h .pagesize) (location f) (4 * d) m) where
-          listed : liesInFile len (h .pagesize) (location f) (4 * directoryPages h) (locationPages h) ≡ checkedIn c₁
-          listed = rw (← pd, ← pm) (sym e₁)
+          held : liesInFile len (h .pagesize) (location f) (4 * directoryPages h) (locationPages h) ≡ checkedIn c₁
+          held = rw (← pd, ← pm) (sym e₁)
 
-          pub list-ends : {why v : Refusal} → c₁ ≡ checked.Refused why → v ≡ whyChecked c₁ → Reaching f len (Refused v)
-          unfolding reached headedIn checkedIn _>>=_ _>>_
-          list-ends w u = record { answer = rw (located-is, listed, u, w) }
+          pub list-ends : {why v : Refusal} → c₁ ≡ checked.Refused why → v ≡ whyChecked c₁ → Listing f len (Refused v)
+          unfolding listed headedIn checkedIn _>>=_ _>>_
+          list-ends w u = record { answer = rw (located-is, held, u, w) }
 
-          pub listed-lie : c₁ ≡ checked.Fine → Lying f len (h .pagesize) Directory d
+          pub entries-lie : c₁ ≡ checked.Fine → Lying f len (h .pagesize) Directory d
           unfolding checkedIn
-          listed-lie w = list-lies f len (h .pagesize) reach-size (rw (← pm) (sym e₁ ∙ ap checkedIn w))
+          entries-lie w = list-lies f len (h .pagesize) list-size (rw (← pm) (sym e₁ ∙ ap checkedIn w))
 
           module _ (w₁ : c₁ ≡ checked.Fine) (c₂ : Checked) (e₂ : checkedIn c₂ ≡ checkPages (h .used) (directoryPage f (h .pagesize)) d) where
             paged : checkPages (h .used) (directoryPage f (h .pagesize)) (directoryPages h) ≡ checkedIn c₂
             paged = rw (← pd) (sym e₂)
 
-            pub page-bad : {why v : Refusal} → c₂ ≡ checked.Refused why → v ≡ whyChecked c₂ → Reaching f len (Refused v)
-            unfolding reached headedIn checkedIn _>>=_ _>>_
-            page-bad w u = record { answer = rw (located-is, listed, w₁, paged, u, w) }
+            pub page-bad : {why v : Refusal} → c₂ ≡ checked.Refused why → v ≡ whyChecked c₂ → Listing f len (Refused v)
+            unfolding listed headedIn checkedIn _>>=_ _>>_
+            page-bad w u = record { answer = rw (located-is, held, w₁, paged, u, w) }
 
-            module _ (w₂ : c₂ ≡ checked.Fine) (c₃ : Checked) (e₃ : checkedIn c₃ ≡ liesInFile len (h .pagesize) (directoryPage f (h .pagesize)) (h .directory) d) where
-              held : liesInFile len (h .pagesize) (directoryPage f (h .pagesize)) (h .directory) (directoryPages h) ≡ checkedIn c₃
-              held = rw (← pd) (sym e₃)
+            pub list-fine : c₂ ≡ checked.Fine → Listing f len (Container h)
+            unfolding listed headedIn checkedIn _>>=_ _>>_
+            list-fine w = record { answer = rw (located-is, held, w₁, paged, w) }
 
-              pub directory-ends : {why v : Refusal} → c₃ ≡ checked.Refused why → v ≡ whyChecked c₃ → Reaching f len (Refused v)
-              unfolding reached headedIn checkedIn _>>=_ _>>_
-              directory-ends w u = record { answer = rw (located-is, listed, w₁, paged, w₂, held, u, w) }
+pub ruleset list-cases = (list-refused, list-ends, page-bad, list-fine)
 
-              pub reach-fine : c₃ ≡ checked.Fine → Reaching f len (Container h)
-              unfolding reached headedIn checkedIn _>>=_ _>>_
-              reach-fine w = record { answer = rw (located-is, listed, w₁, paged, w₂, held, w) }
+-- ---- what is known once the list is read: it lies in the file, and the pages that it names passed
+pub record Listed-at (f : File) (len : ℕ) (h : Header) : Type 0 where
+  pub located : located f len ≡ ok h
+  pub size : PageSize (h .pagesize)
+  pub list : liesInFile len (h .pagesize) (location f) (4 * directoryPages h) (locationPages h) ≡ ok tt
+  pub checked : checkPages (h .used) (directoryPage f (h .pagesize)) (directoryPages h) ≡ ok tt
+  pub lie : Lying f len (h .pagesize) Directory (directoryPages h)
 
-pub ruleset reach-cases = (reach-refused, list-ends, page-bad, directory-ends, reach-fine)
+pub listed-at : (f : File) (len : ℕ) {h : Header} → listed f len ≡ ok h → Listed-at f len h
+unfolding listed
+listed-at f len {h} e =
+    came-by _ _ e λ y o e₁.
+    came _ _ e₁ λ _ l e₂.
+    came _ _ e₂ λ _ c e₃.
+    let same : y ≡ h = ok-is e₃ in
+    let size = is-located f len (o ∙ e₃) .size in
+    record {
+      located = o ∙ e₃;
+      size = size;
+      list = rw (← same) l;
+      checked = rw (← same) c;
+      lie = list-lies f len (h .pagesize) size (rw (← same) l);
+    }
 
--- ---- what a reached directory is known to be: the location list lies in the file, the pages that it names passed, and
--- the directory lies in the file
+-- ---- step 5
+module _ {f : File} {len : ℕ} {r : Headed} (p : Listing f len r) where
+  pub reach-refused : {why : Refusal} → r ≡ Refused why → Reaching f len r
+  unfolding reached headedIn _>>=_
+  reach-refused e =
+      let k : listed f len ≡ refused _ = sym (p .answer) ∙ ap headedIn e in
+      record { answer = ap headedIn e ∙ rw k }
+
+  module _ {h : Header} (e : r ≡ Container h) where
+    listed-is : listed f len ≡ ok h
+    unfolding headedIn
+    listed-is = sym (p .answer) ∙ ap headedIn e
+
+    pub reach-size : PageSize (h .pagesize)
+    reach-size = listed-at f len listed-is .size
+
+    module _ {d : ℕ} (pd : d ≡ directoryPages h) where
+      pub reach-fits : h .directory < 2 ^ 32 → d ≤ 2 ^ 32
+      reach-fits b =
+          let l = reach-size .least in
+          omega (arith, pd, need-le (h .pagesize) (h .directory) (omega arith))
+
+      pub listed-lie : Lying f len (h .pagesize) Directory d
+      listed-lie = rw pd (listed-at f len listed-is .lie)
+
+      module _ (c : Checked) (e₁ : checkedIn c ≡ liesInFile len (h .pagesize) (directoryPage f (h .pagesize)) (h .directory) d) where
+        directory-held : liesInFile len (h .pagesize) (directoryPage f (h .pagesize)) (h .directory) (directoryPages h) ≡ checkedIn c
+        directory-held = rw (← pd) (sym e₁)
+
+        pub directory-ends : {why v : Refusal} → c ≡ checked.Refused why → v ≡ whyChecked c → Reaching f len (Refused v)
+        unfolding reached headedIn checkedIn _>>=_ _>>_
+        directory-ends w u = record { answer = rw (listed-is, directory-held, u, w) }
+
+        pub reach-fine : c ≡ checked.Fine → Reaching f len (Container h)
+        unfolding reached headedIn checkedIn _>>=_ _>>_
+        reach-fine w = record { answer = rw (listed-is, directory-held, w) }
+
+pub ruleset reach-cases = (reach-refused, directory-ends, reach-fine)
+
+-- ---- what a reached directory is known to be: besides, it lies in the file
 pub record Reached-at (f : File) (len : ℕ) (h : Header) : Type 0 where
+  pub listed : listed f len ≡ ok h
   pub located : located f len ≡ ok h
   pub size : PageSize (h .pagesize)
   pub list : liesInFile len (h .pagesize) (location f) (4 * directoryPages h) (locationPages h) ≡ ok tt
@@ -118,15 +174,15 @@ pub reached-at : (f : File) (len : ℕ) {h : Header} → reached f len ≡ ok h 
 unfolding reached
 reached-at f len {h} e =
     came-by _ _ e λ y o e₁.
-    came _ _ e₁ λ _ l e₂.
-    came _ _ e₂ λ _ c e₃.
-    came _ _ e₃ λ _ d e₄.
-    let same : y ≡ h = ok-is e₄ in
+    came _ _ e₁ λ _ d e₂.
+    let same : y ≡ h = ok-is e₂ in
+    let at = listed-at f len (o ∙ e₂) in
     record {
-      located = o ∙ e₄;
-      size = is-located f len (o ∙ e₄) .size;
-      list = rw (← same) l;
-      checked = rw (← same) c;
+      listed = o ∙ e₂;
+      located = at .located;
+      size = at .size;
+      list = at .list;
+      checked = at .checked;
       held = rw (← same) d;
     }
 

@@ -7,11 +7,13 @@ use Rattle.outcome.specs.Refusal as paper
 use Rattle.outcome.proofs.OutcomeLaws.{came, came-by, ok-is, ok-refused, refused-is}
 use Rattle.parse_buffer.specs.Bytes.{File}
 use Rattle.paged.specs.PageSize.{PageSize, need}
+use Rattle.paged.specs.Pages.{entryOf}
 use Rattle.paged.specs.Checks.{liesInFile}
 use Rattle.runs.specs.Inner.{checkedIn, whyChecked}
 use Rattle.runs.proofs.LyingLaws.{fewer-lie}
 use Rattle.paged.proofs.SizeLaws.{need-rises}
 use Rattle.paged.specs.declared.refusal.Refusal.{Refusal}
+use Rattle.paged.specs.declared.pages.Pages.the-variants.{Stream}
 use Rattle.runs.specs.declared.Checked.{Checked}
 use Rattle.runs.specs.declared.Checked.the-variants as checked
 use Rattle.directory.proofs.DirectoryLaws.{reached-at}
@@ -22,7 +24,7 @@ use Rattle.stream.specs.declared.Found.{Found}
 use Rattle.stream.specs.declared.Sought.{Sought}
 use Rattle.stream.specs.declared.Sought.the-variants as sought
 use Rattle.extent.specs.Extent.{lengthOf, Asked, askedOf, asked, readable, extentOf, pageIn}
-use Rattle.extent.specs.Inner.{Extends, EntriesLie, Held, measuredIn, extents, Measuring, Reading}
+use Rattle.extent.specs.Inner.{Extends, EntriesLie, Held, Sound, measuredIn, extents, Measuring, Reading}
 use Rattle.extent.specs.declared.limit.Limit.{Limit}
 use Rattle.extent.specs.declared.limit.Limit.the-variants.{None, AtMost}
 use Rattle.extent.specs.declared.Extent.{Extent}
@@ -51,7 +53,7 @@ module _ (limit : Limit) (x : Found) (h : Held x) {l : ℕ} (is : l ≡ lengthOf
     few = let s = h .size .least in rw pages-are (need-rises (x .header .pagesize) (omega arith) most)
 
     abbrev here : Extent
-    here = record { pagesize = x .header .pagesize; first = x .first; bytes = l; pages = n }
+    here = record { pagesize = x .header .pagesize; list = Stream (x .first); bytes = l; pages = n }
 
     pub first-is : here ≡ extentOf (askedOf limit x)
     first-is = rw (pages-are, is)
@@ -59,7 +61,7 @@ module _ (limit : Limit) (x : Found) (h : Held x) {l : ℕ} (is : l ≡ lengthOf
     pub first-extends : Extends here
     first-extends =
         let m = few in
-        record { size = h .size; whole = pages-are; small = omega (arith, h .small) }
+        record { size = h .size; whole = pages-are; small = omega (arith, h .small); few = omega (arith, h .small) }
 
 -- the entries of what is asked for are among the stream's own, and lie in the file as those do
 pub first-lie : (f : File) (len k : ℕ) (limit : Limit) {x : Found} → found f len k ≡ ok x → EntriesLie f len (extentOf (askedOf limit x))
@@ -67,17 +69,22 @@ first-lie f len k limit {x} e =
     let s = reached-at f len (found-at f len k e .reached) .size .least in
     fewer-lie (found-lies f len k e) (need-rises (x .header .pagesize) (omega arith) (length-most limit (x .size)))
 
+-- ---- a refusal has no extent, and an extent that is known is sound
+pub none-sound : (f : File) (len : ℕ) (why : Refusal) → Sound f len (measured.Refused why)
+unfolding measuredIn
+none-sound f len why = record { extends = λ x w. absurd (ok-refused (sym w)); lie = λ x w. absurd (ok-refused (sym w)) }
+
+pub one-sound : {f : File} {len : ℕ} {y : Extent} → Extends y → EntriesLie f len y → Sound f len (measured.Extent y)
+unfolding measuredIn
+one-sound s l = record { extends = λ x w. rw (← ok-is w) s; lie = λ x w. rw (← ok-is w) l }
+
 -- ---- `measure`
 module _ {f : File} {len k : ℕ} {r : Sought} (p : Finding f len k r) (limit : Limit) where
   pub measure-refused : {why v : Refusal} → r ≡ sought.Refused why → v ≡ whySought r → Measuring f len k limit (measured.Refused v)
   unfolding asked extents measuredIn soughtIn _>>=_
   measure-refused {v} e u =
       let g : found f len k ≡ refused _ = sym (p .answer) ∙ ap soughtIn e in
-      record {
-        answer = rw (g, u, e);
-        extends = λ x w. absurd (ok-refused (sym w));
-        lie = λ x w. absurd (ok-refused (sym w));
-      }
+      record { answer = rw (g, u, e); sound = none-sound f len v }
 
   module _ {x : Found} (e : r ≡ sought.Found x) where
     is-found : found f len k ≡ ok x
@@ -93,11 +100,7 @@ module _ {f : File} {len k : ℕ} {r : Sought} (p : Finding f len k r) (limit : 
     pub measure-fine : {y : Extent} → y ≡ extentOf (askedOf limit x) → Extends y → Measuring f len k limit (measured.Extent y)
     unfolding asked extents measuredIn _>>=_
     measure-fine {y} is s =
-        record {
-          answer = rw (is-found, is);
-          extends = λ z w. rw (← ok-is w) s;
-          lie = λ z w. rw (← ok-is w, is) (first-lie f len k limit is-found);
-        }
+        record { answer = rw (is-found, is); sound = one-sound s (rw is (first-lie f len k limit is-found)) }
 
 pub ruleset measure-cases = (measure-refused, measure-fine)
 
@@ -122,7 +125,7 @@ module _ {f : File} {len k : ℕ} {limit : Limit} {r : Measured} (p : Measuring 
   unfolding readable measuredIn extents _>>=_
   reading-refused e =
       let g : asked f len k limit ≡ refused _ = is-refused _ (sym (p .answer) ∙ ap measuredIn e) in
-      record { answer = ap measuredIn e ∙ rw g; extends = p .extends; lie = p .lie }
+      record { answer = ap measuredIn e ∙ rw g; sound = p .sound }
 
   module _ {x : Extent} (e : r ≡ measured.Extent x) where
     of : Is-of (asked f len k limit) x
@@ -131,16 +134,16 @@ module _ {f : File} {len k : ℕ} {limit : Limit} {r : Measured} (p : Measuring 
 
     pub measured-extends : Extends x
     unfolding measuredIn
-    measured-extends = p .extends x (ap measuredIn e)
+    measured-extends = p .sound .extends x (ap measuredIn e)
 
     pub measured-lie : EntriesLie f len x
     unfolding measuredIn
-    measured-lie = p .lie x (ap measuredIn e)
+    measured-lie = p .sound .lie x (ap measuredIn e)
 
     pub measured-size : PageSize (x .pagesize)
     measured-size = measured-extends .size
 
-    pub measured-small : x .first + x .pages ≤ 2 ^ 32
+    pub measured-small : entryOf (x .list) (x .pages) ≤ 2 ^ 32
     measured-small = measured-extends .small
 
     pub measured-whole : x .pages ≡ need (x .pagesize) (x .bytes)
@@ -153,21 +156,12 @@ module _ {f : File} {len k : ℕ} {limit : Limit} {r : Measured} (p : Measuring 
 
       pub reading-ends : {why v : Refusal} → c ≡ checked.Refused why → v ≡ whyChecked c → Reading f len k limit (measured.Refused v)
       unfolding readable measuredIn extents checkedIn _>>=_ _>>_
-      reading-ends w u =
-          record {
-            answer = rw (of .is, lies-as, u, w);
-            extends = λ y z. absurd (ok-refused (sym z));
-            lie = λ y z. absurd (ok-refused (sym z));
-          }
+      reading-ends {v} w u = record { answer = rw (of .is, lies-as, u, w); sound = none-sound f len v }
 
       pub reading-fine : c ≡ checked.Fine → Reading f len k limit (measured.Extent x)
       unfolding readable measuredIn extents checkedIn _>>=_ _>>_
       reading-fine w =
-          record {
-            answer = rw (of .is, lies-as, w, of .extent);
-            extends = λ y z. rw (← ok-is z) measured-extends;
-            lie = λ y z. rw (← ok-is z) measured-lie;
-          }
+          record { answer = rw (of .is, lies-as, w, of .extent); sound = one-sound measured-extends measured-lie }
 
 pub ruleset reading-cases = (reading-refused, reading-ends, reading-fine)
 

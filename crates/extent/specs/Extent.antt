@@ -1,11 +1,12 @@
 -- Document 01, container rule 8: how many bytes of a stream are asked for; and whether they lie in the file.
-use Prim.Native.Nat.{ℕ, _+_, min}
+use Prim.Native.Nat.{ℕ, min}
 use Rattle.outcome.specs.Outcome.{Outcome, ok, _>>=_, _>>_}
 use Rattle.outcome.specs.Refusal as paper
 use Rattle.parse_buffer.specs.Bytes.{File}
 use Rattle.paged.specs.PageSize.{need}
-use Rattle.paged.specs.Pages.{directoryWord}
+use Rattle.paged.specs.Pages.{pageOf}
 use Rattle.paged.specs.Checks.{liesInFile}
+use Rattle.paged.specs.declared.pages.Pages.the-variants.{Stream}
 use Rattle.stream.specs.Stream.{ownPage, found}
 use Rattle.stream.specs.declared.Found.{Found}
 use Rattle.extent.specs.declared.limit.Limit.{Limit}
@@ -44,11 +45,11 @@ abbrev pub extentOf : Asked → Extent
 extentOf x =
     record {
       pagesize = x .found .header .pagesize;
-      first = x .found .first;
+      list = Stream (x .found .first);
       bytes = x .length;
       pages = need (x .found .header .pagesize) (x .length);
     }
 
 -- page j of them
 abbrev pub pageIn : File → Extent → ℕ → ℕ
-pageIn f x j = directoryWord f (x .pagesize) (x .first + j)
+pageIn f x j = pageOf f (x .pagesize) (x .list) j

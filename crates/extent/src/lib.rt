@@ -20,11 +20,10 @@ ghost use Rattle.parse_buffer.specs.Bytes.{byteAt};
 ghost use Rattle.extent.specs.Extent.{askedOf, extentOf};
 ghost use Rattle.extent.specs.Inner.{whyMeasured, Extends, Held, Measuring, Reading};
 
-// The first `bytes` bytes of a stream. Its page numbers are in the directory, from word `first` on, and the bytes take
-// `pages` of them.
+// The first `bytes` bytes of a paged object. They take `pages` pages, whose numbers are the first of this list.
 pub struct Extent {
     pub pagesize: usize,
-    pub first: usize,
+    pub list: Pages,
     pub bytes: usize,
     pub pages: usize,
 }
@@ -54,7 +53,8 @@ pub fn readable(file: &[u8], stream: StreamNumber, limit: Limit) -> Measured
     let Measured::Extent(x) = measured else {
         return measured;
     };
-    let checked = lies_in_file(file, x.pagesize, Pages::Stream(x.first), x.bytes, x.pages);
+    let list = x.list;
+    let checked = lies_in_file(file, x.pagesize, list, x.bytes, x.pages);
     let Checked::Fine = checked else {
         return Measured::Refused(checked.why());
     };
@@ -84,7 +84,7 @@ pub fn first_bytes(x: Found, limit: Limit) -> Extent
     let pages = pages_needed_to_store(pagesize, bytes);
     Extent {
         pagesize,
-        first: x.first,
+        list: Pages::Stream(x.first),
         bytes,
         pages,
     }

@@ -22,9 +22,9 @@ use Rattle.header.specs.Header.{bigMagic, smallMagic, standsAt, entriesInBlock,
 use Rattle.header.specs.declared.Header.{Header}
 use Rattle.header.proofs.BlockLaws.{stands-same}
 use Rattle.header.proofs.OpenLaws.{is-located}
-use Rattle.directory.specs.Directory.{holds, reached, streamCount}
+use Rattle.directory.specs.Directory.{holds, listed, reached, streamCount}
 use Rattle.isolation.specs.Listed.{InWord, wordPlace, listLies, ListedOpen, ListedCount, Agree}
-use Rattle.directory.proofs.DirectoryLaws.{reached-at}
+use Rattle.directory.proofs.DirectoryLaws.{listed-at, reached-at}
 
 -- ---- what holds of any stage
 pub check-same : (used : ℕ) {p q : ℕ → ℕ} (n : ℕ) → ((j : ℕ) → j < n → p j ≡ q j) → checkPages used p n ≡ checkPages used q n
@@ -100,13 +100,20 @@ module _ (f g : File) (len : ℕ) (agree : Agree (ListedCount f len) f g) where
         rw (← location-same f g len opens o (4 * j / h .pagesize) (need-index (h .pagesize) (4 * directoryPages h) (omega arith) (4 * j) (omega arith)))
         (word-same λ i a b. agree i (ListedCount.list {j = j} {h = h} (cc) inside (omega arith) (omega arith)))
 
-  pub reached-same : reached f len ≡ reached g len
-  unfolding reached
-  reached-same =
+  pub listed-same : listed f len ≡ listed g len
+  unfolding listed
+  listed-same =
       bind-same (located-same f g len opens) λ h o.
       then-same (lies-same _ _ _ _ (location-same f g len opens o)) λ _ inside.
       then-same (check-same _ _ (entry-same o inside)) λ _ _.
-      then-same (lies-same _ _ _ _ (entry-same o inside)) λ _ _.
+      refl
+
+  pub reached-same : reached f len ≡ reached g len
+  unfolding reached
+  reached-same =
+      bind-same listed-same λ h o.
+      let at = listed-at f len o in
+      then-same (lies-same _ _ _ _ (entry-same (at .located) (at .list))) λ _ _.
       refl
 
   module _ {h : Header} (d : reached f len ≡ ok h) where

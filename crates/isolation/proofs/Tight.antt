@@ -8,7 +8,7 @@ use Rattle.paged.specs.PageSize.{sizeFits, need}
 use Rattle.paged.specs.Pages.{location, directoryPage, directoryWord}
 use Rattle.paged.specs.Checks.{pageFits}
 use Rattle.header.specs.Header.{standsAt, sized, headed, located, opening}
-use Rattle.directory.specs.Directory.{reached, streamCount}
+use Rattle.directory.specs.Directory.{listed, reached, streamCount}
 use Rattle.stream.specs.Stream.{pagesOf, pagesBefore, present, skippedTo, found}
 use Rattle.slices.specs.Slices.{lengthen, slicesOf, cut}
 use Rattle.extent.specs.Extent.{asked, readable}
@@ -19,7 +19,7 @@ use Rattle.container_statements.specs.Cases.{mappingOf}
 use Rattle.isolation.specs.Tight.{Tight, firstByte}
 
 pub tight : Tight
-unfolding mappingOf firstByte F fileF _>>=_ _>>_ require each word sizeFits need location directoryPage directoryWord pageFits standsAt sized headed located opening reached streamCount pagesOf pagesBefore present skippedTo found lengthen slicesOf cut asked mapping bytesThrough readable extraction Count.ones Count.onesIn
+unfolding mappingOf firstByte F fileF _>>=_ _>>_ require each word sizeFits need location directoryPage directoryWord pageFits standsAt sized headed located opening listed reached streamCount pagesOf pagesBefore present skippedTo found lengthen slicesOf cut asked mapping bytesThrough readable extraction Count.ones Count.onesIn
 tight =
     record {
       start = (refl, refl);

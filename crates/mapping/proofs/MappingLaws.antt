@@ -1,10 +1,15 @@
 -- The ways out of judging a mapping; what an accepted mapping is known to be.
-use mathlib.Core.Path.{_≡_, sym, _∙_, ap}
-use Prim.Native.Nat.{ℕ, _≤_, _<_}
+use mathlib.Core.Path.{_≡_, refl, sym, _∙_, ap}
+use mathlib.Core.Bool.{Bool, true, false}
+use mathlib.Core.List.{List, map}
+use Prim.Native.Nat.{ℕ, min, _≤_, _<_}
 use native.Mathlib.Omega.{arith}
 use borrow.Author.Tests.{le-leb, lt-leb, leb-true}
+use lib.Dec.{leb}
 use lib.ListN.{length}
-use Rattle.outcome.specs.Outcome.{ok, refused, _>>=_, _>>_, require}
+use Rattle.outcome.specs.Outcome.{Outcome, ok, refused, _>>=_, _>>_, require}
+use Rattle.outcome.specs.Refusal as paper
+use Rattle.outcome.specs.Store.{written}
 use Rattle.outcome.proofs.OutcomeLaws.{came, came-by, ok-is, ok-refused, passed}
 use Rattle.parse_buffer.specs.Bytes.{File}
 use Rattle.paged.specs.PageSize.{PageSize}
@@ -16,17 +21,18 @@ use Rattle.directory.proofs.DirectoryLaws.{reached-at}
 use Rattle.stream.specs.Stream.{ownPage, ownPages}
 use Rattle.stream.proofs.FindLaws.{found-at}
 use Rattle.extent.specs.Extent.{Asked, asked, extentOf, pageIn}
-use Rattle.extent.specs.Inner.{Extends, EntriesLie, measuredIn, extents, Measuring}
+use Rattle.extent.specs.Inner.{Extends, EntriesLie, Sound, measuredIn, whyMeasured, extents, Measuring}
 use Rattle.extent.proofs.ExtentLaws.{length-most, Is-of, is-of, is-refused, asked-at}
 use Rattle.extent.specs.declared.limit.Limit.{Limit}
 use Rattle.extent.specs.declared.Extent.{Extent}
 use Rattle.extent.specs.declared.Measured.{Measured}
 use Rattle.extent.specs.declared.Measured.the-variants as measured
 use Rattle.slices.specs.Slices.{slicesOf}
-use Rattle.slices.specs.Inner.{slicesThrough}
+use Rattle.slices.specs.Inner.{slicesThrough, Writing}
+use Rattle.slices.specs.declared.SourceSlice.{SourceSlice}
 use Rattle.slices.proofs.SliceLaws.{cut-past-pages, slices-few, cut-few}
 use Rattle.mapping.specs.Mapping.{slicesIn, mapping, mapped, mappedIn}
-use Rattle.mapping.specs.Inner.{Writable, Judging}
+use Rattle.mapping.specs.Inner.{Writable, Judged, fitted, Fitting, Judging, mappedOf, eachSlice, Puts}
 use Rattle.mapping.specs.declared.Mapping.the-variants as variant
 
 -- ---- the slices of what was asked for are those of its extent: pages past the length change nothing
@@ -48,57 +54,71 @@ module _ (f : File) (len k : ℕ) (limit : Limit) {x : Asked} (e : asked f len k
       cut-past-pages p (ownPage f (x .found)) (omega arith) (x .length) (extentOf x .pages) (ownPages (x .found))
       (need-covers p (x .length) (omega arith)) asked-few
 
--- ---- `judge`
-module _ {f : File} {len k : ℕ} {limit : Limit} {r : Measured} (p : Measuring f len k limit r) (room : ℕ) where
-  pub judge-refused : {why : Refusal} → r ≡ measured.Refused why → Judging f len k limit room r
-  unfolding mapping extents measuredIn _>>=_
-  judge-refused e =
-      let g : asked f len k limit ≡ refused _ = is-refused _ (sym (p .answer) ∙ ap measuredIn e) in
-      record { answer = ap measuredIn e ∙ rw g; writable = λ x w. absurd (ok-refused (sym w ∙ ap measuredIn e)) }
+-- ---- `fit`
+module _ {f : File} {len : ℕ} {m : Measured} (p : Sound f len m) (room : ℕ) where
+  none-judged : (why : Refusal) → Judged f len room (measured.Refused why)
+  unfolding measuredIn
+  none-judged why = record { writable = λ x w. absurd (ok-refused (sym w)) }
 
-  module _ {x : Extent} (e : r ≡ measured.Extent x) where
-    of : Is-of (asked f len k limit) x
+  pub fit-refused : {why : Refusal} → m ≡ measured.Refused why → Fitting f len room m m
+  unfolding fitted measuredIn _>>=_
+  fit-refused {why} e = record { answer = rw e; judged = rw e (none-judged why) }
+
+  module _ {x : Extent} (e : m ≡ measured.Extent x) where
+    pub fit-extends : Extends x
     unfolding measuredIn
-    of = is-of _ (sym (p .answer) ∙ ap measuredIn e)
+    fit-extends = p .extends x (ap measuredIn e)
 
-    pub judge-extends : Extends x
+    pub fit-lie : EntriesLie f len x
     unfolding measuredIn
-    judge-extends = p .extends x (ap measuredIn e)
+    fit-lie = p .lie x (ap measuredIn e)
 
-    pub judge-lie : EntriesLie f len x
-    unfolding measuredIn
-    judge-lie = p .lie x (ap measuredIn e)
+    pub fit-no-room : {c : ℕ} → c ≡ length (slicesThrough f x) → room < c → Fitting f len room m (measured.Refused (NoRoom c))
+    unfolding fitted measuredIn require _>>=_ _>>_
+    fit-no-room {c} count-is h =
+        record { answer = rw (e, ← count-is, lt-leb c room h); judged = none-judged (NoRoom c) }
 
-    same-slices : slicesIn f (of .asked) ≡ slicesThrough f x
-    same-slices = slices-asked f len k limit (of .is) ∙ ap (slicesThrough f) (of .extent)
-
-    pub judge-no-room : {c : ℕ} → c ≡ length (slicesThrough f x) → room < c → Judging f len k limit room (measured.Refused (NoRoom c))
-    unfolding mapping extents measuredIn require _>>=_ _>>_
-    judge-no-room {c} count-is h =
-        let counted : length (slicesIn f (of .asked)) ≡ c = ap length same-slices ∙ sym count-is in
+    fit-fine : length (slicesThrough f x) ≤ room → Fitting f len room m (measured.Extent x)
+    unfolding fitted measuredIn require _>>=_ _>>_
+    fit-fine h =
         record {
-          answer = rw (of .is, counted, lt-leb c room h);
-          writable = λ y w. absurd (ok-refused (sym w));
+          answer = rw (e, le-leb _ room h);
+          judged = record {
+            writable = λ y w.
+                rw (← ok-is w) (record { extends = fit-extends; lie = fit-lie; fit = h });
+          };
         }
 
-    judge-fine : length (slicesThrough f x) ≤ room → Judging f len k limit room (measured.Extent x)
-    unfolding mapping extents measuredIn require _>>=_ _>>_
-    judge-fine h =
-        record {
-          answer = rw (of .is, same-slices, le-leb _ room h, of .extent);
-          writable = λ y w. rw (← ok-is w) (record { extends = judge-extends; lie = judge-lie; fit = h });
-        }
-
-    pub judge-counted : {c : ℕ} → c ≡ length (slicesThrough f x) → c ≤ room → Judging f len k limit room (measured.Extent x)
-    judge-counted count-is h = judge-fine (omega (arith, count-is))
+    pub fit-counted : {c : ℕ} → c ≡ length (slicesThrough f x) → c ≤ room → Fitting f len room m (measured.Extent x)
+    fit-counted count-is h = fit-fine (omega (arith, count-is))
 
     -- there are no more slices than pages
-    pub judge-few : x .pages ≤ room → Judging f len k limit room (measured.Extent x)
-    judge-few h =
-        judge-fine
+    pub fit-few : x .pages ≤ room → Fitting f len room m (measured.Extent x)
+    fit-few h =
+        fit-fine
         (omega (arith, cut-few (x .bytes) (slicesOf (x .pagesize) (pageIn f x) (x .pages)), slices-few (x .pagesize) (pageIn f x) (x .pages)))
 
-pub ruleset judge-cases = (judge-refused, judge-no-room, judge-counted, judge-few)
+pub ruleset fit-cases = (fit-refused, fit-no-room, fit-counted, fit-few)
+
+-- ---- `judge`
+require-extent : (x : Asked) (b : Bool) (why : paper.Refusal) → require b why >> ok (extentOf x) ≡ extents (require b why >> ok x)
+unfolding extents require _>>=_ _>>_
+require-extent x true why = refl
+require-extent x false why = refl
+
+-- room is judged of the extent, or of what was asked for: that is the same
+fitted-asked : (f : File) (room : ℕ) (o : Outcome paper.Refusal Asked) → ((x : Asked) → o ≡ ok x → slicesIn f x ≡ slicesThrough f (extentOf x)) → fitted f (extents o) room ≡ extents (o >>= λ x. require (leb (length (slicesIn f x)) room) (refusalIn (NoRoom (length (slicesIn f x)))) >> ok x)
+unfolding fitted extents _>>=_
+fitted-asked f room (ok x) same = rw (same x refl) (require-extent x _ _)
+fitted-asked f room (refused why) same = refl
+
+pub judge-fine : {f : File} {len k : ℕ} {limit : Limit} {m r : Measured} {room : ℕ} → Measuring f len k limit m → Fitting f len room m r → Judging f len k limit room r
+unfolding mapping
+judge-fine {f} {len} {k} {limit} {m} {r} {room} p q =
+    record {
+      answer = q .answer ∙ ap (λ (o : Outcome paper.Refusal Extent). fitted f o room) (p .answer) ∙ fitted-asked f room (asked f len k limit) (λ x e. slices-asked f len k limit e);
+      judged = q .judged;
+    }
 
 -- ---- an accepted mapping: what was asked for, and that its slices fit
 pub record Mapping-at (f : File) (len k : ℕ) (limit : Limit) (room : ℕ) (x : Asked) : Type 0 where
@@ -121,7 +141,7 @@ module _ {f : File} {len k room : ℕ} {limit : Limit} {r : Measured} (p : Judgi
   module _ {x : Extent} (e : r ≡ measured.Extent x) where
     pub judged-writable : Writable f len room x
     unfolding measuredIn
-    judged-writable = p .writable x (ap measuredIn e)
+    judged-writable = p .judged .writable x (ap measuredIn e)
 
     pub judged-is : Is-of (mapping f len k limit room) x
     unfolding measuredIn
@@ -137,3 +157,51 @@ module _ {f : File} {len k room : ℕ} {limit : Limit} {r : Measured} (p : Judgi
     judged-mapped count =
         let bytes : judged-is .asked .length ≡ x .bytes = ap (λ (y : Extent). y .bytes) (judged-is .extent) in
         rw (judged-is .is, judged-slices, count, bytes)
+
+-- ---- `write_judged`
+module _ {f : File} {len : ℕ} {j : Measured} (o t : List ℕ) (p : Judged f len (min (length o) (length t)) j) where
+  pub write-refused : {why v : Refusal} → j ≡ measured.Refused why → v ≡ whyMeasured j → Puts f j o t (variant.Refused v) o t
+  unfolding mappedOf mappedIn measuredIn written _>>=_
+  write-refused e u = record { answer = rw (u, e); offsets-after = rw e; sizes-after = rw e }
+
+  module _ {x : Extent} (e : j ≡ measured.Extent x) where
+    writable : Writable f len (min (length o) (length t)) x
+    unfolding measuredIn
+    writable = p .writable x (ap measuredIn e)
+
+    pub write-extends : Extends x
+    write-extends = writable .extends
+
+    pub write-lie : EntriesLie f len x
+    write-lie = writable .lie
+
+    pub write-offsets : length (slicesThrough f x) ≤ length o
+    write-offsets = omega (arith, writable .fit)
+
+    pub write-sizes : length (slicesThrough f x) ≤ length t
+    write-sizes = omega (arith, writable .fit)
+
+    pub write-fine : {c : ℕ} {o′ t′ : List ℕ} → Writing (slicesThrough f x) c o t o′ t′ → Puts f j o t (variant.Mapped (record { slices = c; length = x .bytes })) o′ t′
+    unfolding mappedOf mappedIn measuredIn written _>>=_
+    write-fine w =
+        record { answer = rw (w .count, e); offsets-after = w .offsets-are ∙ rw e; sizes-after = w .sizes-are ∙ rw e }
+
+pub ruleset write-cases = (write-refused, write-fine)
+
+-- ---- an outcome of another kind, of which the extents were judged: what was written is by its own slices
+abbrev Alike : {A : Type 0} → File → (A → Extent) → (A → List SourceSlice) → Outcome paper.Refusal A → Type 0
+Alike {A} f extent slices o = (a : A) → o ≡ ok a → slices a ≡ slicesThrough f (extent a)
+
+pub mapped-alike : {A : Type 0} (f : File) (extent : A → Extent) (slices : A → List SourceSlice) (o : Outcome paper.Refusal A) → Alike f extent slices o → mappedOf f (o >>= λ a. ok (extent a)) ≡ (o >>= λ a. ok (record { slices = length (slices a); length = extent a .bytes }))
+unfolding mappedOf _>>=_
+mapped-alike f extent slices (ok a) same = rw (same a refl)
+mapped-alike f extent slices (refused why) same = refl
+
+pub written-alike : {A : Type 0} (f : File) (extent : A → Extent) (slices : A → List SourceSlice) (o : Outcome paper.Refusal A) (part : SourceSlice → ℕ) (store : List ℕ) → Alike f extent slices o → written (o >>= λ a. ok (extent a)) (eachSlice part f) store ≡ written o (λ a. map part (slices a)) store
+unfolding written _>>=_
+written-alike f extent slices (ok a) part store same = rw (same a refl)
+written-alike f extent slices (refused why) part store same = refl
+
+-- of a mapping
+pub slices-mapped : (f : File) (len k room : ℕ) (limit : Limit) → Alike f extentOf (slicesIn f) (mapping f len k limit room)
+slices-mapped f len k room limit x e = slices-asked f len k limit (mapping-at f len k limit room e .asked)

@@ -12,56 +12,39 @@ use Rattle.parse_buffer.specs.Bytes.{File}
 use Rattle.paged.specs.Checks.{liesInFile}
 use Rattle.paged.specs.declared.refusal.Refusal.{Refusal}
 use Rattle.paged.specs.declared.refusal.Refusal.the-variants.{NoRoom}
-use Rattle.extent.specs.Extent.{readable, pageIn}
-use Rattle.extent.specs.Inner.{Extends, EntriesLie, measuredIn, whyMeasured, Reading}
+use Rattle.extent.specs.Extent.{readable, extentOf, pageIn}
+use Rattle.extent.specs.Inner.{Extends, EntriesLie, measuredIn, whyMeasured, extents, Reading}
 use Rattle.extent.proofs.ExtentLaws.{Is-of, is-of, is-refused, readable-at}
 use Rattle.extent.specs.declared.limit.Limit.{Limit}
 use Rattle.extent.specs.declared.Extent.{Extent}
 use Rattle.extent.specs.declared.Measured.{Measured}
 use Rattle.extent.specs.declared.Measured.the-variants as measured
-use Rattle.slices.specs.Inner.{slicesThrough, Writing}
-use Rattle.mapping.specs.Mapping.{mapped, mappedIn}
-use Rattle.mapping.specs.Inner.{Judging}
-use Rattle.mapping.proofs.MappingLaws.{judged-refused, judged-writable, judged-is, judged-slices, judged-mapped}
-use Rattle.mapping.specs.declared.Mapping.the-variants as mapping
+use Rattle.slices.specs.declared.SourceSlice.{SourceSlice}
+use Rattle.mapping.specs.Mapping.{slicesIn, mapping, mapped}
+use Rattle.mapping.specs.Inner.{Judged, Judging, mappedOf, Puts}
+use Rattle.mapping.proofs.MappingLaws.{mapped-alike, written-alike, slices-mapped}
+use Rattle.mapping.specs.declared.Mapping.{Mapping}
 use Rattle.msf.specs.Extraction.{extraction, lengthIn}
 use Rattle.msf.specs.Inner.{bytesOf, LiesIn}
 use Rattle.msf.specs.Promises.{extractedIn, Maps, Extracts}
 use Rattle.msf.specs.declared.to_bytes.Extracted.the-variants as extracted
 
 -- ---- `map`
-module _ {f : File} {len k room : ℕ} {limit : Limit} {r : Measured} (p : Judging f len k limit room r) (o t : List ℕ) (room-is : room ≡ min (length o) (length t)) where
-  pub map-refused : {why v : Refusal} → r ≡ measured.Refused why → v ≡ whyMeasured r → Maps f len k limit o t (mapping.Refused v) o t
-  unfolding mapped mappedIn written _>>=_
-  map-refused e u =
-      let is = judged-refused p e in
-      record { answer = rw (← room-is, is, u, e); offsets-after = rw (← room-is, is); sizes-after = rw (← room-is, is) }
+pub map-judged : {f : File} {len k room : ℕ} {limit : Limit} {j : Measured} (o t : List ℕ) → room ≡ min (length o) (length t) → Judging f len k limit room j → Judged f len (min (length o) (length t)) j
+map-judged o t room-is p = rw (← room-is) (p .judged)
 
-  module _ {x : Extent} (e : r ≡ measured.Extent x) where
-    pub map-extends : Extends x
-    map-extends = judged-writable p e .extends
-
-    pub map-lie : EntriesLie f len x
-    map-lie = judged-writable p e .lie
-
-    pub map-offsets : length (slicesThrough f x) ≤ length o
-    map-offsets = omega (arith, judged-writable p e .fit)
-
-    pub map-sizes : length (slicesThrough f x) ≤ length t
-    map-sizes = omega (arith, judged-writable p e .fit)
-
-    pub map-written : {c : ℕ} {o′ t′ : List ℕ} → Writing (slicesThrough f x) c o t o′ t′ → Maps f len k limit o t (mapping.Mapped (record { slices = c; length = x .bytes })) o′ t′
-    unfolding written
-    map-written w =
-        let is = judged-is p e .is in
-        let slices = judged-slices p e in
-        record {
-          answer = rw (← room-is) (judged-mapped p e (w .count));
-          offsets-after = w .offsets-are ∙ rw (← room-is, is, slices);
-          sizes-after = w .sizes-are ∙ rw (← room-is, is, slices);
-        }
-
-pub ruleset map-cases = (map-refused, map-written)
+pub map-fine : {f : File} {len k room : ℕ} {limit : Limit} {j : Measured} {r : Mapping} {o t o′ t′ : List ℕ} → room ≡ min (length o) (length t) → Judging f len k limit room j → Puts f j o t r o′ t′ → Maps f len k limit o t r o′ t′
+unfolding mapped extents
+map-fine {f} {len} {k} {room} {limit} {j} {o = o} {t} room-is p w =
+    let by = mapping f len k limit room in
+    let same = slices-mapped f len k room limit in
+    record {
+      answer = rw (← room-is) (w .answer ∙ ap (mappedOf f) (p .answer) ∙ mapped-alike f extentOf (slicesIn f) by same);
+      offsets-after = rw (← room-is)
+          (w .offsets-after ∙ rw (p .answer) (written-alike f extentOf (slicesIn f) by (λ (s : SourceSlice). s .offset) o same));
+      sizes-after = rw (← room-is)
+          (w .sizes-after ∙ rw (p .answer) (written-alike f extentOf (slicesIn f) by (λ (s : SourceSlice). s .size) t same));
+    }
 
 -- ---- `extract`
 module _ {f : File} {len k : ℕ} {limit : Limit} {r : Measured} (p : Reading f len k limit r) (o : List ℕ) where
@@ -78,11 +61,11 @@ module _ {f : File} {len k : ℕ} {limit : Limit} {r : Measured} (p : Reading f 
 
     pub read-extends : Extends x
     unfolding measuredIn
-    read-extends = p .extends x (ap measuredIn e)
+    read-extends = p .sound .extends x (ap measuredIn e)
 
     pub read-lie : EntriesLie f len x
     unfolding measuredIn
-    read-lie = p .lie x (ap measuredIn e)
+    read-lie = p .sound .lie x (ap measuredIn e)
 
     pub read-lies : LiesIn f len x
     read-lies =

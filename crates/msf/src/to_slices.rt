@@ -1,12 +1,10 @@
 // Mapping a stream to slices of the file, into two lent stores: `judge` sees that the slices fit, and they are written.
 use extent::Limit;
-use extent::Measured;
-use mapping::Mapped;
 use mapping::Mapping;
 use mapping::judge;
+use mapping::write_judged;
 use paged::StreamNumber;
 use paged::least;
-use slices::write_slices;
 ghost use lib.ListN.{length};
 ghost use Rattle.parse_buffer.specs.Bytes.{byteAt};
 ghost use Rattle.msf.specs.Promises.{Maps};
@@ -26,12 +24,5 @@ pub fn map(
 {
     let room = least(offsets.len(), sizes.len());
     let judged = judge(file, stream, limit, room);
-    let Measured::Extent(x) = judged else {
-        return Mapping::Refused(judged.why());
-    };
-    let slices = write_slices(file, x, offsets, sizes);
-    Mapping::Mapped(Mapped {
-        slices,
-        length: x.bytes,
-    })
+    write_judged(file, judged, offsets, sizes)
 }

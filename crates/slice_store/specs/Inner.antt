@@ -3,6 +3,7 @@ use mathlib.Core.Path.{_≡_}
 use Prim.Native.Nat.{ℕ, _-_, _<_}
 use Rattle.parse_buffer.specs.Bytes.{File}
 use Rattle.paged.specs.PageSize.{smallest}
+use Rattle.paged.specs.declared.pages.Pages.the-variants.{Location}
 use Rattle.runs.specs.Inner.{beforeFirst}
 use Rattle.extent.specs.Inner.{Extends, EntriesLie}
 use Rattle.extent.specs.declared.Extent.{Extent}
@@ -16,7 +17,7 @@ use Rattle.slice_store.specs.declared.Stepped.{Stepped}
 
 -- no byte, of pages of the smallest size
 abbrev pub noBytes : Extent
-noBytes = record { pagesize = smallest; first = 0; bytes = 0; pages = 0 }
+noBytes = record { pagesize = smallest; list = Location; bytes = 0; pages = 0 }
 
 -- the bytes whose slices are to be written
 abbrev pub toWrite : Measured → Extent

@@ -91,7 +91,7 @@ fn nothing() -> Extent
 {
     Extent {
         pagesize: Header::SMALLEST as usize,
-        first: 0,
+        list: Pages::Location,
         bytes: 0,
         pages: 0,
     }
@@ -103,14 +103,9 @@ fn step(file: &[u8], c: Cursor) -> Stepped
     ensures { λ r. ⌜ Stepping (byteAt (now (file .entry))) c r ⌝ }
 {
     let extent = c.extent;
+    let list = extent.list;
     let before = c.stretch;
-    let ahead = next_stretch(
-        file,
-        extent.pagesize,
-        Pages::Stream(extent.first),
-        extent.pages,
-        before,
-    );
+    let ahead = next_stretch(file, extent.pagesize, list, extent.pages, before);
     let walk = extend(extent, before.next, ahead, c.walk);
     let at = walk.count - 1;
     let slice = walk.slice;

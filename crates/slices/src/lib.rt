@@ -6,7 +6,6 @@
 // `extend`.
 use extent::Extent;
 use paged::PageNumber;
-use paged::Pages;
 use paged::span_of;
 use runs::Stretch;
 use runs::before_first;
@@ -42,7 +41,8 @@ pub fn count_slices(file: &[u8], x: Extent) -> usize
     let mut s = before_first();
     while s.next < x.pages {
         let i = s.next;
-        s = next_stretch(file, x.pagesize, Pages::Stream(x.first), x.pages, s);
+        let list = x.list;
+        s = next_stretch(file, x.pagesize, list, x.pages, s);
         walk = extend(x, i, s, walk);
     }
     walk.count
@@ -63,7 +63,8 @@ pub fn write_slices(file: &[u8], x: Extent, offsets: &mut [u64], sizes: &mut [u6
     let mut s = before_first();
     while s.next < x.pages {
         let i = s.next;
-        s = next_stretch(file, x.pagesize, Pages::Stream(x.first), x.pages, s);
+        let list = x.list;
+        s = next_stretch(file, x.pagesize, list, x.pages, s);
         walk = extend(x, i, s, walk);
         put(offsets, sizes, walk);
     }

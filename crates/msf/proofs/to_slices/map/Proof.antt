@@ -1,7 +1,7 @@
 -- Everything is judged before a store is written: `judge` has seen that the slices fit the shorter store.
 -- Assumes nothing.
 use borrow.Author.Needs.{needs}
-use Rattle.msf.proofs.MsfLaws.{map-cases, map-extends, map-lie, map-offsets, map-sizes}
+use Rattle.msf.proofs.MsfLaws.{map-judged, map-fine}
 use Rattle.msf.proofs.to_slices.map.Statement.{statement}
 use Rattle.msf.proofs.to_slices.map.Tie as tie
 
@@ -11,20 +11,8 @@ least-requires c κs = search needs
 judge-requires : tie.Need-judge-requires
 judge-requires c κs = search needs
 
-enum-known-judged : tie.Need-enum-known-judged
-enum-known-judged c = search needs
-
-enum-told : tie.Need-enum-told
-enum-told c = search needs
-
-why-requires : tie.Need-why-requires
-why-requires c κs = search needs
-
-returns : tie.Need-returns
-returns c = search map-cases
-
-write-slices-requires : tie.Need-write-slices-requires
-write-slices-requires c κs = (search map-extends, (search map-lie, (search map-offsets, search map-sizes)))
+write-judged-requires : tie.Need-write-judged-requires
+write-judged-requires c κs = search map-judged
 
 same-length : tie.Need-same-length
 same-length c = search needs
@@ -32,8 +20,8 @@ same-length c = search needs
 same-length-2 : tie.Need-same-length-2
 same-length-2 c = search needs
 
-returns-2 : tie.Need-returns-2
-returns-2 c = search map-cases
+returns : tie.Need-returns
+returns c = search map-fine
 
 pub map-spec : {M : Type 1} → statement M
 map-spec =
@@ -41,11 +29,7 @@ map-spec =
     (tie.spec
     least-requires
     judge-requires
-    enum-known-judged
-    enum-told
-    why-requires
-    returns
-    write-slices-requires
+    write-judged-requires
     same-length
     same-length-2
-    returns-2)
+    returns)
