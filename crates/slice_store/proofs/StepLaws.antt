@@ -43,7 +43,7 @@ nothing-writable : (f : File) (len room : ℕ) → Writable f len room noBytes
 unfolding need slicesOf cut
 nothing-writable f len room =
     record {
-      extends = record { size = smallest-passes; whole = refl; small = omega arith };
+      extends = record { size = smallest-passes; whole = refl; small = omega arith; few = omega arith };
       lie = record { lies = λ j l. absurd (omega arith) };
       fit = omega arith;
     }
