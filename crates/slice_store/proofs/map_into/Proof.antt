@@ -114,8 +114,14 @@ place-fits i n l r = omega arith
 abbrev lval : Limit → Val
 lval = EL.val L.the-type L′.the-laws
 
+abbrev kval : Cursor → Val
+kval c = only (LL.vals K.the-type K′.the-laws c)
+
+abbrev sval : Stepped → Val
+sval t = only (LL.vals S.the-type S′.the-laws t)
+
 abbrev Good : Cursor → Type 0
-Good c = Is K.the-row c (K′.lowered c ∷ [])
+Good c = Is K.the-row c (kval c ∷ [])
 
 abbrev word : Ty
 word = tyInt w64
@@ -244,7 +250,7 @@ module _ {M : Type 1} (𝓤 : URA M) (H : Heap 𝓤) (A : Atoms 𝓤) (W : Given
       ends-with c = (j, (c, tt))
 
       abbrev end-vals : Cursor → List Val × (List Val × Unit {0})
-      end-vals c = (w ∷ [], (K′.lowered c ∷ [], tt))
+      end-vals c = (w ∷ [], (kval c ∷ [], tt))
 
       abbrev to-answer : Cursor → Answer 𝓤 H A mem run .Ghost
       to-answer c = ((tt, tt, tt, ends-with c, end-vals c), tt)
@@ -274,7 +280,7 @@ module _ {M : Type 1} (𝓤 : URA M) (H : Heap 𝓤) (A : Atoms 𝓤) (W : Given
       -- ---- the call of `step`
       -- what it is passed, at a cursor
       abbrev to-step : Cursor → Step 𝓤 H A mem run .Ghost
-      to-step c = (((κ, tt), (q, tt), tt, (x, (c, tt)), (v ∷ [], (K′.lowered c ∷ [], tt))), tt)
+      to-step c = (((κ, tt), (q, tt), tt, (x, (c, tt)), (v ∷ [], (kval c ∷ [], tt))), tt)
 
       gives-step : (c : Cursor) → Reached f extent c → c .stretch .next < c .extent .pages → Good c → ent 𝓤 (sep 𝓤 (sem 𝓤 H A Bytes) (A .lft κ q)) (sep 𝓤 (Step 𝓤 H A mem run .pre (to-step c)) (sem 𝓤 H A Bytes))
       gives-step c reached less good =
@@ -284,8 +290,8 @@ module _ {M : Type 1} (𝓤 : URA M) (H : Heap 𝓤) (A : Atoms 𝓤) (W : Given
           nothing ! $ move ! (3 ∷ 0 ∷ []) $ join ! $ move ! (0 ∷ 1 ∷ []) $
           use2 W (raw (Step 𝓤 H A mem run .pre (to-step c))) asked $ frame ! $ done !
         where
-          asked : ent 𝓤 (onEntry 𝓤 H A step.signature (κ, tt) (q, tt) (x, (c, tt)) (v ∷ [], (K′.lowered c ∷ [], tt))) (Step 𝓤 H A mem run .pre (to-step c))
-          asked = qed W ((‵ (flft κ q) ⊛ ‵ ftrue) ∷ ‵ (owns (ShrSlice (named 0) κ u8 ∷ K.the-row ∷ []) (x, (c, tt)) (v ∷ [], (K′.lowered c ∷ [], tt))) ∷ []) ∵ says ! (ready (writable j judged) reached less) $ frame ! $ done !
+          asked : ent 𝓤 (onEntry 𝓤 H A step.signature (κ, tt) (q, tt) (x, (c, tt)) (v ∷ [], (kval c ∷ [], tt))) (Step 𝓤 H A mem run .pre (to-step c))
+          asked = qed W ((‵ (flft κ q) ⊛ ‵ ftrue) ∷ ‵ (owns (ShrSlice (named 0) κ u8 ∷ K.the-row ∷ []) (x, (c, tt)) (v ∷ [], (kval c ∷ [], tt))) ∷ []) ∵ says ! (ready (writable j judged) reached less) $ frame ! $ done !
 
       said-step : (c : Cursor) (t : Stepped) → ent 𝓤 (ensured 𝓤 H A step.ended (step.clauses 𝓤 H A mem run) (κ, tt) (x, (c, tt)) tt t) (fact 𝓤 (Stepping f c t))
       said-step c t = exE 𝓤 _ (λ ws. snd∗ 𝓤 (sem 𝓤 H A (lasts step.ended (κ, tt) (x, (c, tt)) ws)) (fact 𝓤 (Stepping f c t)))
@@ -305,7 +311,7 @@ module _ {M : Type 1} (𝓤 : URA M) (H : Heap 𝓤) (A : Atoms 𝓤) (W : Given
       At i =
           Holding (zs (i .0))
           (‵ (froom tyPtr l₁₁ 0) ∷ ‵ (fdies tyPtr l₁₁) ∷ ‵ (froom word l₁₀ 0) ∷ ‵ (fdies word l₁₀) ∷ ‵ (froom tyBool l₉ 0) ∷ ‵ (fdies tyBool l₉) ∷ ‵ (fat fullShare word l₈ 0 (vint w64 (length ys))) ∷ ‵ (fdies word l₈)
-          ∷ ‵ (froom S′.mir l₇ 0) ∷ ‵ (fdies S′.mir l₇) ∷ ‵ (fat fullShare K′.mir l₆ 0 (K′.lowered (i .0))) ∷ ‵ (fdies K′.mir l₆) ∷ ‵ (fat fullShare J′.mir l₅ 0 w) ∷ ‵ (fdies J′.mir l₅) ∷ Passed)
+          ∷ ‵ (froom S′.mir l₇ 0) ∷ ‵ (fdies S′.mir l₇) ∷ ‵ (fat fullShare K′.mir l₆ 0 (kval (i .0))) ∷ ‵ (fdies K′.mir l₆) ∷ ‵ (fat fullShare J′.mir l₅ 0 w) ∷ ‵ (fdies J′.mir l₅) ∷ Passed)
 
       module _ (𝓣 : Tables 𝓤 H) (known-step : Triple 𝓤 (𝓣 .C #step) (Step 𝓤 H A mem run)) (known-answer : Triple 𝓤 (𝓣 .C #answer) (Answer 𝓤 H A mem run)) where
         abbrev C : Calls 𝓤 H
@@ -354,7 +360,7 @@ module _ {M : Type 1} (𝓤 : URA M) (H : Heap 𝓤) (A : Atoms 𝓤) (W : Given
             byte-fits : (t : Stepped) → Stepping f (i .0) t → t .at * 16 < 2 ^ 64
             byte-fits t stepping = place-fits (t .at) (length ys) (inside t stepping) (room′ .1)
 
-            good : (t : Stepped) (u : Val) → Is S.the-row t (u ∷ []) → Is S.the-row t (S′.lowered t ∷ [])
+            good : (t : Stepped) (u : Val) → Is S.the-row t (u ∷ []) → Is S.the-row t (sval t ∷ [])
             good t u is = subst (Is S.the-row t) (LL.tells S.the-type S′.the-laws t _ is) is
 
             slice-is : (t : Stepped) (u : Val) → Is S.the-row t (u ∷ []) → Is R (t .slice) (T′.lowered (t .slice) ∷ [])
