@@ -97,17 +97,32 @@ fn proved(folder: &Path) -> Vec<u8> {
     library
 }
 
-/// The library's sources: crates.txt, and the folders of the crates that its line for trovespan names.
+/// The library's sources: crates.txt, and the folders of the crates that the library is made of.
 fn sources() -> Vec<PathBuf> {
     let list = Path::new(ROOT).join("crates.txt");
     let text = fs::read_to_string(&list).unwrap_or_else(|e| {
         stop(&format!("{e}: {}. Outside the repository, {GIVEN} must name the folder of {LIBRARY}", list.display()))
     });
-    let line = text.lines().find_map(|line| line.strip_prefix("trovespan:"));
-    let names = line.unwrap_or_else(|| stop("crates.txt does not name trovespan"));
-    let folders = names.split_whitespace().chain(["trovespan"]).map(|name| Path::new(ROOT).join("crates").join(name));
+    let folders = crates_of(&text).into_iter().map(|name| Path::new(ROOT).join("crates").join(name));
     let parts = folders.flat_map(|folder| ["src", "specs", "proofs"].map(|part| folder.join(part)));
     parts.filter(|part| part.exists()).chain([list]).collect()
+}
+
+/// The crate trovespan and all that it is over, directly or through others. A name without a line is a library of the
+/// toolchain.
+fn crates_of(list: &str) -> Vec<&str> {
+    let needs = |name: &str| list.lines().find_map(|line| line.strip_prefix(name)?.strip_prefix(':'));
+    if needs("trovespan").is_none() {
+        stop("crates.txt does not name trovespan");
+    }
+    let mut found = vec!["trovespan"];
+    let mut next = 0;
+    while let Some(name) = found.get(next).copied() {
+        let new = needs(name).unwrap_or("").split_whitespace().filter(|name| !found.contains(name));
+        found.extend(new.collect::<Vec<_>>());
+        next += 1;
+    }
+    found
 }
 
 /// The digest of the names and contents of all these files.
