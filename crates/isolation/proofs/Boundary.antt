@@ -9,8 +9,8 @@ use Rattle.parse_buffer.specs.Bytes.{File}
 use Rattle.slices.specs.declared.SourceSlice.{SourceSlice}
 use Rattle.msf.specs.Extraction.{bytesIn}
 use Rattle.extent.specs.declared.limit.Limit.{Limit}
-use Rattle.trovespan.specs.Promises.{Opens, Counts, Maps, Extracts}
-use Rattle.trovespan.proofs.Statements.{single-valued}
+use Rattle.container_crossing.specs.Promises.{Opens, Counts, Maps, Extracts}
+use Rattle.container_crossing.proofs.Statements.{single-valued}
 use Rattle.isolation.specs.Listed.{ListedOpen, ListedCount, ListedMap, ListedBytes, Agree}
 use Rattle.isolation.specs.Boundary.{Boundary}
 use Rattle.isolation.proofs.Same.{streamCount-same}

@@ -4,7 +4,7 @@ use mathlib.Core.List.{List}
 use Prim.Native.Nat.{ℕ}
 use Rattle.parse_buffer.specs.Bytes.{File}
 use Rattle.extent.specs.declared.limit.Limit.{Limit}
-use Rattle.trovespan.specs.Promises.{Opens, Counts, Maps, Extracts}
+use Rattle.container_crossing.specs.Promises.{Opens, Counts, Maps, Extracts}
 use Rattle.isolation.specs.Listed.{ListedOpen, ListedCount, ListedMap, ListedBytes, Agree}
 use Rattle.isolation.specs.Isolation.{Equal}
 

@@ -6,36 +6,15 @@
 // It writes its other results to the numbers that it is lent: on a refusal `value` is the refusal's value, and a number
 // that has nothing to say is 0. The caller guarantees that what it lends is there and does not overlap, and nothing
 // else.
-use annotation_writer::Written;
-use annotation_writer::write_annotations;
-use annotations::OperandStep;
-use annotations::operands_at;
-use container_writer::write_container;
-use decode::Decoded;
-use decode::decode_all;
-use lines::Ran;
-use lines::run_lines;
-use msf::Counted;
-use msf::Extracted;
-use msf::Limit;
-use msf::Mapping;
-use msf::Opened;
-use msf::StreamNumber;
-use numbers::Uncompressed;
-use numbers::uncompress_next;
-use triples::triple_of;
-ghost use mathlib.Core.Path.{_≡_};
+//
+// A static library exports the functions of its own crate alone. So each function here only calls the one that it is
+// named after, which makes the same promise.
 ghost use lib.ListN.{length};
 ghost use Rattle.parse_buffer.specs.Bytes.{byteAt};
-ghost use Rattle.trovespan.specs.Crossing.{limitOf};
-ghost use Rattle.trovespan.specs.Promises.{Opens, Counts, Maps, Extracts, Numbers, Steps, Decodes, Runs, Writes, Packs};
-ghost use Rattle.trovespan.specs.Statements.{SingleValued, Apart};
-
-// Returned on success. No refusal has this number.
-const ACCEPTED: u32 = 0;
-
-// The refusal of a store that is too small.
-const NO_ROOM: u32 = 10;
+ghost use Rattle.container_crossing.specs.Limit.{limitOf};
+ghost use Rattle.container_crossing.specs.Promises.{Opens, Counts, Maps, Extracts};
+ghost use Rattle.annotations_crossing.specs.Promises.{Numbers, Steps, Decodes, Runs};
+ghost use Rattle.writers_crossing.specs.Promises.{Writes, Packs};
 
 // `value` is P, `used` is pages_used.
 #[no_mangle]
@@ -44,18 +23,7 @@ pub extern "C" fn trovespan_open(file: &[u8], value: &mut u64, used: &mut u64) -
         Opens (byteAt (now (file .entry))) (length (now (file .entry))) r (now (value .exit)) (now (used .exit))
         ⌝ }
 {
-    match msf::open(file) {
-        Opened::Container(c) => {
-            *value = c.pagesize as u64;
-            *used = c.used as u64;
-            ACCEPTED
-        }
-        Opened::Refused(why) => {
-            *value = why.value();
-            *used = 0;
-            why.number()
-        }
-    }
+    container_crossing::open(file, value, used)
 }
 
 // `value` is the number of streams.
@@ -63,16 +31,7 @@ pub extern "C" fn trovespan_open(file: &[u8], value: &mut u64, used: &mut u64) -
 pub extern "C" fn trovespan_stream_count(file: &[u8], value: &mut u64) -> u32
     ensures { λ r. ⌜ Counts (byteAt (now (file .entry))) (length (now (file .entry))) r (now (value .exit)) ⌝ }
 {
-    match msf::stream_count(file) {
-        Counted::Streams(n) => {
-            *value = n as u64;
-            ACCEPTED
-        }
-        Counted::Refused(why) => {
-            *value = why.value();
-            why.number()
-        }
-    }
+    container_crossing::stream_count(file, value)
 }
 
 // `value` is the number of slices, `total` the number of their bytes. `limit` is used only if `limited`.
@@ -93,24 +52,7 @@ pub extern "C" fn trovespan_map(
         (now (offsets .exit)) (now (sizes .exit))
         ⌝ }
 {
-    match msf::map(
-        file,
-        StreamNumber(stream),
-        limit_of(limited, limit),
-        offsets,
-        sizes,
-    ) {
-        Mapping::Mapped(m) => {
-            *value = m.slices as u64;
-            *total = m.length as u64;
-            ACCEPTED
-        }
-        Mapping::Refused(why) => {
-            *value = why.value();
-            *total = 0;
-            why.number()
-        }
-    }
+    container_crossing::map(file, stream, limited, limit, offsets, sizes, value, total)
 }
 
 // `value` is the number of bytes written. `limit` is used only if `limited`.
@@ -128,16 +70,7 @@ pub extern "C" fn trovespan_extract(
         (now (out .entry)) r (now (value .exit)) (now (out .exit))
         ⌝ }
 {
-    match msf::extract(file, StreamNumber(stream), limit_of(limited, limit), out) {
-        Extracted::Length(n) => {
-            *value = n as u64;
-            ACCEPTED
-        }
-        Extracted::Refused(why) => {
-            *value = why.value();
-            why.number()
-        }
-    }
+    container_crossing::extract(file, stream, limited, limit, out, value)
 }
 
 // `value` is the number, `taken` how many bytes it took, `shortest` 1 if no form of it is shorter, else 0. `next` is
@@ -156,23 +89,7 @@ pub extern "C" fn trovespan_number(
         (now (next .exit))
         ⌝ }
 {
-    match uncompress_next(bytes, at) {
-        Uncompressed::Value(n) => {
-            *value = n.value as u64;
-            *taken = n.taken as u64;
-            *shortest = n.shortest as u64;
-            *next = n.next as u64;
-            ACCEPTED
-        }
-        Uncompressed::Refused(why) => {
-            let refusal = why.refusal;
-            *value = refusal.value();
-            *taken = 0;
-            *shortest = 0;
-            *next = why.place as u64;
-            refusal.number()
-        }
-    }
+    annotations_crossing::number(bytes, at, value, taken, shortest, next)
 }
 
 // `value` is the annotation's opcode, 1 to 13, or 0 at the end. `first` and `second` are its operands. `shortest` is 1
@@ -192,36 +109,7 @@ pub extern "C" fn trovespan_step(
         (now (shortest .exit)) (now (next .exit))
         ⌝ }
 {
-    match operands_at(bytes, at) {
-        OperandStep::Annotation(a) => {
-            let t = triple_of(a.opcode, a.first, a.second);
-            let left = t.first;
-            let right = t.second;
-            *value = t.opcode as u64;
-            *first = left;
-            *second = right;
-            *shortest = a.shortest as u64;
-            *next = a.next as u64;
-            ACCEPTED
-        }
-        OperandStep::End(place) => {
-            *value = 0;
-            *first = 0;
-            *second = 0;
-            *shortest = 0;
-            *next = place as u64;
-            ACCEPTED
-        }
-        OperandStep::Refused(why) => {
-            let refusal = why.refusal;
-            *value = refusal.value();
-            *first = 0;
-            *second = 0;
-            *shortest = 0;
-            *next = why.place as u64;
-            refusal.number()
-        }
-    }
+    annotations_crossing::step(bytes, at, value, first, second, shortest, next)
 }
 
 // `value` is the number of annotations, `place` the place after a refusal. Refusal 10 has no place.
@@ -236,24 +124,7 @@ pub extern "C" fn trovespan_decode(
         Decodes (now (bytes .entry)) (now (store .entry)) r (now (value .exit)) (now (place .exit)) (now (store .exit))
         ⌝ }
 {
-    match decode_all(bytes, store) {
-        Decoded::Count(n) => {
-            *value = n as u64;
-            *place = 0;
-            ACCEPTED
-        }
-        Decoded::Refused(why) => {
-            let refusal = why.refusal;
-            *value = refusal.value();
-            *place = why.place as u64;
-            refusal.number()
-        }
-        Decoded::NoRoom(needed) => {
-            *value = needed as u64;
-            *place = 0;
-            NO_ROOM
-        }
-    }
+    annotations_crossing::decode(bytes, store, value, place)
 }
 
 // `value` is the number of line records, `place` the place after a refusal of the decoder. 25 and 10 have no place.
@@ -268,18 +139,7 @@ pub extern "C" fn trovespan_run_lines(
         Runs (now (bytes .entry)) (now (store .entry)) r (now (value .exit)) (now (place .exit)) (now (store .exit))
         ⌝ }
 {
-    match run_lines(bytes, store) {
-        Ran::Count(n) => {
-            *value = n as u64;
-            *place = 0;
-            ACCEPTED
-        }
-        Ran::Refused(why) => {
-            *value = why.value();
-            *place = why.place() as u64;
-            why.number()
-        }
-    }
+    annotations_crossing::run_lines(bytes, store, value, place)
 }
 
 // `value` is the number of bytes written.
@@ -293,16 +153,7 @@ pub extern "C" fn trovespan_write_annotations(
         Writes (now (records .entry)) (now (out .entry)) r (now (value .exit)) (now (out .exit))
         ⌝ }
 {
-    match write_annotations(records, out) {
-        Written::Length(n) => {
-            *value = n as u64;
-            ACCEPTED
-        }
-        Written::Refused(why) => {
-            *value = why.value();
-            why.number()
-        }
-    }
+    writers_crossing::write_annotations(records, out, value)
 }
 
 // `value` is the file's length.
@@ -319,30 +170,5 @@ pub extern "C" fn trovespan_write_container(
         r (now (value .exit)) (now (out .exit))
         ⌝ }
 {
-    match write_container(page_size, sizes, bytes, out) {
-        container_writer::Written::Length(n) => {
-            *value = n as u64;
-            ACCEPTED
-        }
-        container_writer::Written::Refused(why) => {
-            *value = why.value();
-            why.number()
-        }
-    }
+    writers_crossing::write_container(page_size, sizes, bytes, out, value)
 }
-
-// The limit, if there is one.
-fn limit_of(limited: bool, limit: usize) -> Limit
-    ensures { λ r. ⌜ r ≡ limitOf limited limit ⌝ }
-{
-    if limited {
-        return Limit::AtMost(limit);
-    }
-    Limit::None
-}
-
-// Promises each statement of this crate, so that none can be dropped unnoticed.
-pub fn proved()
-    ensures { λ r. ⌜ SingleValued ⌝ }
-    ensures { λ r. ⌜ Apart ⌝ }
-{}

@@ -1,0 +1,3 @@
+mod AnnotationLaws
+mod LineLaws
+pub mod Statements

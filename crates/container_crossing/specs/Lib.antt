@@ -1,0 +1,3 @@
+pub mod Limit
+pub mod Promises
+pub mod Statements

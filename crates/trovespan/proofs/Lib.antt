@@ -1,4 +1,0 @@
-mod ContainerLaws
-mod AnnotationLaws
-mod LineLaws
-pub mod Statements

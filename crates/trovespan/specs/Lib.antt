@@ -1,3 +1,0 @@
-pub mod Crossing
-pub mod Promises
-pub mod Statements

@@ -1,0 +1,2 @@
+mod WriterLaws
+pub mod Statements
