@@ -23,8 +23,10 @@ use Rattle.mapping.specs.declared.Mapping.{Mapping}
 use Rattle.mapping.specs.declared.Mapping.the-variants as mapping
 use Rattle.msf.specs.declared.to_bytes.Extracted.{Extracted}
 use Rattle.msf.specs.declared.to_bytes.Extracted.the-variants as extracted
+use Rattle.needed.specs.Promises as needed
+use Rattle.needed.specs.declared.Stage.{Stage}
 use Rattle.crossing.specs.Crossing.{told}
-use Rattle.container_crossing.specs.Promises.{Opens, Counts, Maps, Extracts}
+use Rattle.container_crossing.specs.Promises.{Opens, Counts, TellsMapping, Maps, Needs, Extracts}
 
 -- ---- `open`
 module _ {f : File} {len : ℕ} {r : Opened} (p : Opening f len r) where
@@ -58,21 +60,27 @@ module _ {f : File} {len : ℕ} {r : Counted} (p : Counting f len r) where
 
 pub ruleset count-cases = (counts-streams, counts-refused)
 
+-- ---- `tell_mapping`
+module _ {r : Mapping} where
+  pub tells-mapped : {m : Mapped} → r ≡ mapping.Mapped m → TellsMapping (mappedIn r) 0 (m .slices) (m .length)
+  unfolding told mappedIn
+  tells-mapped e = record { answer = record { number = rw e; value = rw e }; length-told = rw e }
+
+  pub tells-refused : {why : Refusal} {n v : ℕ} → r ≡ mapping.Refused why → n ≡ refusalIn why .number → v ≡ refusalIn why .value → TellsMapping (mappedIn r) n v 0
+  unfolding told mappedIn
+  tells-refused e n v = record { answer = record { number = rw e n; value = rw e v }; length-told = rw e }
+
+pub ruleset tell-cases = (tells-mapped, tells-refused)
+
 -- ---- `map`; the limit is the one that crossed
-module _ {f : File} {len k : ℕ} {limit limit′ : Limit} {os ss os′ ss′ : List ℕ} {r : Mapping} (p : msf.Maps f len k limit os ss r os′ ss′) (crossed : limit ≡ limit′) where
-  pub maps-mapped : {m : Mapped} → r ≡ mapping.Mapped m → Maps f len k limit′ os ss 0 (m .slices) (m .length) os′ ss′
-  unfolding told mappedIn
-  maps-mapped {m} e =
-      let k : _ ≡ ok m = sym (p .answer) ∙ ap mappedIn e in
-      rw⁻¹ crossed (record { answer = record { number = rw k; value = rw k }; length-told = rw k; offsets-after = p .offsets-after; sizes-after = p .sizes-after })
+pub maps-told : {f : File} {len k n v u : ℕ} {limit limit′ : Limit} {os ss os′ ss′ : List ℕ} {r : Mapping} → msf.Maps f len k limit os ss r os′ ss′ → limit ≡ limit′ → TellsMapping (mappedIn r) n v u → Maps f len k limit′ os ss n v u os′ ss′
+maps-told p crossed t =
+    rw⁻¹ crossed (record { tells = rw (← p .answer) t; offsets-after = p .offsets-after; sizes-after = p .sizes-after })
 
-  pub maps-refused : {why : Refusal} {n v : ℕ} → r ≡ mapping.Refused why → n ≡ refusalIn why .number → v ≡ refusalIn why .value → Maps f len k limit′ os ss n v 0 os′ ss′
-  unfolding told mappedIn
-  maps-refused {why} e n v =
-      let k : _ ≡ refused (refusalIn why) = sym (p .answer) ∙ ap mappedIn e in
-      rw⁻¹ crossed (record { answer = record { number = rw k n; value = rw k v }; length-told = rw k; offsets-after = p .offsets-after; sizes-after = p .sizes-after })
-
-pub ruleset map-cases = (maps-mapped, maps-refused)
+-- ---- `needed_to_map`; so is the stage
+pub needs-told : {f : File} {len n v u : ℕ} {stage stage′ : Stage} {os ss os′ ss′ : List ℕ} {r : Mapping} → needed.Needs f len stage os ss r os′ ss′ → stage ≡ stage′ → TellsMapping (mappedIn r) n v u → Needs f len stage′ os ss n v u os′ ss′
+needs-told p crossed t =
+    rw⁻¹ crossed (record { tells = rw (← p .answer) t; offsets-after = p .offsets-after; sizes-after = p .sizes-after })
 
 -- ---- `extract`
 module _ {f : File} {len k : ℕ} {limit limit′ : Limit} {out out′ : List ℕ} {r : Extracted} (p : msf.Extracts f len k limit out r out′) (crossed : limit ≡ limit′) where

@@ -1,3 +1,3 @@
-pub mod Limit
+pub mod Flags
 pub mod Promises
 pub mod Statements

@@ -7,11 +7,13 @@ use msf::Limit;
 use msf::Mapping;
 use msf::Opened;
 use msf::StreamNumber;
+use needed::Stage;
 ghost use mathlib.Core.Path.{_≡_};
 ghost use lib.ListN.{length};
 ghost use Rattle.parse_buffer.specs.Bytes.{byteAt};
-ghost use Rattle.container_crossing.specs.Limit.{limitOf};
-ghost use Rattle.container_crossing.specs.Promises.{Opens, Counts, Maps, Extracts};
+ghost use Rattle.mapping.specs.Mapping.{mappedIn};
+ghost use Rattle.container_crossing.specs.Flags.{limitOf, stageOf};
+ghost use Rattle.container_crossing.specs.Promises.{Opens, Counts, TellsMapping, Maps, Needs, Extracts};
 ghost use Rattle.container_crossing.specs.Statements.{SingleValued};
 
 // `value` is P, `used` is pages_used.
@@ -67,24 +69,33 @@ pub fn map(
         (now (offsets .exit)) (now (sizes .exit))
         ⌝ }
 {
-    match msf::map(
+    let mapped = msf::map(
         file,
         StreamNumber(stream),
         limit_of(limited, limit),
         offsets,
         sizes,
-    ) {
-        Mapping::Mapped(m) => {
-            *value = m.slices as u64;
-            *total = m.length as u64;
-            ACCEPTED
-        }
-        Mapping::Refused(why) => {
-            *value = why.value();
-            *total = 0;
-            why.number()
-        }
-    }
+    );
+    tell_mapping(mapped, value, total)
+}
+
+// The location list's slices, or the directory's if `directory`. `value` is their number, `total` that of their bytes.
+pub fn needed_to_map(
+    file: &[u8],
+    directory: bool,
+    offsets: &mut [u64],
+    sizes: &mut [u64],
+    value: &mut u64,
+    total: &mut u64,
+) -> u32
+    ensures { λ r. ⌜
+        Needs (byteAt (now (file .entry))) (length (now (file .entry))) (stageOf directory)
+        (now (offsets .entry)) (now (sizes .entry)) r (now (value .exit)) (now (total .exit))
+        (now (offsets .exit)) (now (sizes .exit))
+        ⌝ }
+{
+    let mapped = needed::needed_to_map(file, stage_of(directory), offsets, sizes);
+    tell_mapping(mapped, value, total)
 }
 
 // `value` is the number of bytes written. `limit` is used only if `limited`.
@@ -113,6 +124,24 @@ pub fn extract(
     }
 }
 
+// What crosses of a mapping: the number of slices, and that of their bytes.
+fn tell_mapping(mapped: Mapping, value: &mut u64, total: &mut u64) -> u32
+    ensures { λ r. ⌜ TellsMapping (mappedIn mapped) r (now (value .exit)) (now (total .exit)) ⌝ }
+{
+    match mapped {
+        Mapping::Mapped(m) => {
+            *value = m.slices as u64;
+            *total = m.length as u64;
+            ACCEPTED
+        }
+        Mapping::Refused(why) => {
+            *value = why.value();
+            *total = 0;
+            why.number()
+        }
+    }
+}
+
 // The limit, if there is one.
 fn limit_of(limited: bool, limit: usize) -> Limit
     ensures { λ r. ⌜ r ≡ limitOf limited limit ⌝ }
@@ -121,6 +150,16 @@ fn limit_of(limited: bool, limit: usize) -> Limit
         return Limit::AtMost(limit);
     }
     Limit::None
+}
+
+// The stage of a flag.
+fn stage_of(directory: bool) -> Stage
+    ensures { λ r. ⌜ r ≡ stageOf directory ⌝ }
+{
+    if directory {
+        return Stage::Directory;
+    }
+    Stage::LocationList
 }
 
 // Promises the statement of this crate, so that it cannot be dropped unnoticed.

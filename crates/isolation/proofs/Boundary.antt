@@ -31,8 +31,7 @@ module _ (f g : File) (len : ℕ) where
       let room : ℕ = min (length offsets) (length sizes) in
       let same = mapped-same f g len k limit agree room in
       record {
-        answer = rw same (p .answer);
-        length-told = rw same (p .length-told);
+        tells = rw same (p .tells);
         offsets-after = p .offsets-after ∙ sym (slices-same f g len k limit agree (λ (s : SourceSlice). s .offset) room offsets);
         sizes-after = p .sizes-after ∙ sym (slices-same f g len k limit agree (λ (s : SourceSlice). s .size) room sizes);
       }

@@ -11,8 +11,8 @@
 // named after, which makes the same promise.
 ghost use lib.ListN.{length};
 ghost use Rattle.parse_buffer.specs.Bytes.{byteAt};
-ghost use Rattle.container_crossing.specs.Limit.{limitOf};
-ghost use Rattle.container_crossing.specs.Promises.{Opens, Counts, Maps, Extracts};
+ghost use Rattle.container_crossing.specs.Flags.{limitOf, stageOf};
+ghost use Rattle.container_crossing.specs.Promises.{Opens, Counts, Maps, Needs, Extracts};
 ghost use Rattle.annotations_crossing.specs.Promises.{Numbers, Steps, Decodes, Runs};
 ghost use Rattle.writers_crossing.specs.Promises.{Writes, Packs};
 
@@ -53,6 +53,26 @@ pub extern "C" fn trovespan_map(
         ⌝ }
 {
     container_crossing::map(file, stream, limited, limit, offsets, sizes, value, total)
+}
+
+// Which parts of the file mapping reads: the location list's slices, or the directory's if `directory`. `value` is their
+// number, `total` that of their bytes.
+#[no_mangle]
+pub extern "C" fn trovespan_needed_to_map(
+    file: &[u8],
+    directory: bool,
+    offsets: &mut [u64],
+    sizes: &mut [u64],
+    value: &mut u64,
+    total: &mut u64,
+) -> u32
+    ensures { λ r. ⌜
+        Needs (byteAt (now (file .entry))) (length (now (file .entry))) (stageOf directory)
+        (now (offsets .entry)) (now (sizes .entry)) r (now (value .exit)) (now (total .exit))
+        (now (offsets .exit)) (now (sizes .exit))
+        ⌝ }
+{
+    container_crossing::needed_to_map(file, directory, offsets, sizes, value, total)
 }
 
 // `value` is the number of bytes written. `limit` is used only if `limited`.
