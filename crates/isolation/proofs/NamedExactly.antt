@@ -24,7 +24,7 @@ use Rattle.isolation.specs.NamedExactly.{StreamByte, InPages, NamedExact
 use Rattle.isolation.proofs.InPagesLaws.{byte-in-pages}
 
 -- ---- slices laid end to end
-named : (xs : List SourceSlice) (i : ℕ) → i < total xs → Named xs (placeOf xs i)
+pub named : (xs : List SourceSlice) (i : ℕ) → i < total xs → Named xs (placeOf xs i)
 unfolding total placeOf
 named [] i l = absurd (omega arith)
 named (s ∷ rest) i l =
@@ -33,12 +33,12 @@ named (s ∷ rest) i l =
     (λ (m : s .size ≤ i). rw (le-ltb i (s .size) m) (Named.there (named rest (i - s .size) (omega arith))))
     (below-or i (s .size))
 
-record ByteOf (xs : List SourceSlice) (i : ℕ) : Type 0 where
-  index : ℕ
-  below : index < total xs
-  at : placeOf xs index ≡ i
+pub record ByteOf (xs : List SourceSlice) (i : ℕ) : Type 0 where
+  pub index : ℕ
+  pub below : index < total xs
+  pub at : placeOf xs index ≡ i
 
-byte-of : (xs : List SourceSlice) (i : ℕ) → Named xs i → ByteOf xs i
+pub byte-of : (xs : List SourceSlice) (i : ℕ) → Named xs i → ByteOf xs i
 unfolding total placeOf
 byte-of (s ∷ rest) i (Named.here l m) =
     let low : i - s .offset < s .size = omega arith in

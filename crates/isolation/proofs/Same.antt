@@ -23,7 +23,7 @@ use Rattle.header.specs.declared.Header.{Header}
 use Rattle.header.proofs.BlockLaws.{stands-same}
 use Rattle.header.proofs.OpenLaws.{is-located}
 use Rattle.directory.specs.Directory.{holds, listed, reached, streamCount}
-use Rattle.isolation.specs.Listed.{InWord, wordPlace, listLies, ListedOpen, ListedCount, Agree}
+use Rattle.isolation.specs.Listed.{InWord, entryPlace, wordPlace, listLies, ListedOpen, ListedCount, Agree}
 use Rattle.directory.proofs.DirectoryLaws.{listed-at, reached-at}
 
 -- ---- what holds of any stage
@@ -86,19 +86,19 @@ module _ (f g : File) (len : ℕ) (agree : Agree (ListedOpen f len) f g) where
       let few = x .few in
       location-listed (x .headed) j (omega arith)
 
--- ---- the stream count
-module _ (f g : File) (len : ℕ) (agree : Agree (ListedCount f len) f g) where
-  opens : Agree (ListedOpen f len) f g
-  opens i l = agree i (ListedCount.opening l)
+-- ---- the location list, where the files agree on its bytes
+pub record AgreeOnList (f g : File) (len : ℕ) : Type 0 where
+  pub is : {i j : ℕ} {h : Header} → located f len ≡ ok h → listLies f len h ≡ ok tt → j < directoryPages h → InWord (entryPlace f h j) i → f i ≡ g i
 
+module _ (f g : File) (len : ℕ) (opens : Agree (ListedOpen f len) f g) (list : AgreeOnList f g len) where
   module _ {h : Header} (o : located f len ≡ ok h) (inside : listLies f len h ≡ ok tt) where
-    entry-same : (j : ℕ) → j < directoryPages h → directoryPage f (h .pagesize) j ≡ directoryPage g (h .pagesize) j
+    pub entry-same : (j : ℕ) → j < directoryPages h → directoryPage f (h .pagesize) j ≡ directoryPage g (h .pagesize) j
     unfolding directoryPage
     entry-same j l =
         let at = is-located f len o in
         let s = at .size .least in
         rw (← location-same f g len opens o (4 * j / h .pagesize) (need-index (h .pagesize) (4 * directoryPages h) (omega arith) (4 * j) (omega arith)))
-        (word-same λ i a b. agree i (ListedCount.list {j = j} {h = h} (cc) inside (omega arith) (omega arith)))
+        (word-same λ i a b. list .is {j = j} {h = h} (cc) inside (omega arith) (omega arith))
 
   pub listed-same : listed f len ≡ listed g len
   unfolding listed
@@ -108,12 +108,20 @@ module _ (f g : File) (len : ℕ) (agree : Agree (ListedCount f len) f g) where
       then-same (check-same _ _ (entry-same o inside)) λ _ _.
       refl
 
+-- ---- the stream count
+module _ (f g : File) (len : ℕ) (agree : Agree (ListedCount f len) f g) where
+  pub opens : Agree (ListedOpen f len) f g
+  opens i l = agree i (ListedCount.opening l)
+
+  pub lists : AgreeOnList f g len
+  lists = record { is = λ {i} {j} {h} o inside l w. agree i (ListedCount.list {j = j} {h = h} (cc) inside (omega arith) w) }
+
   pub reached-same : reached f len ≡ reached g len
   unfolding reached
   reached-same =
-      bind-same listed-same λ h o.
+      bind-same (listed-same f g len opens lists) λ h o.
       let at = listed-at f len o in
-      then-same (lies-same _ _ _ _ (entry-same (at .located) (at .list))) λ _ _.
+      then-same (lies-same _ _ _ _ (entry-same f g len opens lists (at .located) (at .list))) λ _ _.
       refl
 
   module _ {h : Header} (d : reached f len ≡ ok h) where
@@ -123,7 +131,7 @@ module _ (f g : File) (len : ℕ) (agree : Agree (ListedCount f len) f g) where
     held-same w t same =
         let at = reached-at f len d in
         let s = at .size .least in
-        rw (← entry-same (at .located) (at .list) (4 * w / h .pagesize) (need-index (h .pagesize) (h .directory) (omega arith) (4 * w) (omega arith)))
+        rw (← entry-same f g len opens lists (at .located) (at .list) (4 * w / h .pagesize) (need-index (h .pagesize) (h .directory) (omega arith) (4 * w) (omega arith)))
         (word-same λ i a b. same i (omega arith))
 
     pub count-same : holds h 1 ≡ true → directoryWord f (h .pagesize) 0 ≡ directoryWord g (h .pagesize) 0

@@ -22,7 +22,7 @@ use Rattle.directory.proofs.DirectoryLaws.{reached-at}
 use Rattle.extent.proofs.ExtentLaws.{asked-at, readable-at}
 
 -- ---- opening
-in-block : (f : File) (len i : ℕ) → ListedOpen f len i → i < headerBlock
+pub in-block : (f : File) (len i : ℕ) → ListedOpen f len i → i < headerBlock
 in-block f len i (ListedOpen.start l) = omega arith
 in-block f len i (ListedOpen.fields l m) = omega arith
 in-block f len i (ListedOpen.small e l m) = omega arith

@@ -33,7 +33,7 @@ continues-same : {p q : ℕ → ℕ} (n : ℕ) → ((j : ℕ) → j < suc n → 
 continues-same zero h = refl
 continues-same (suc n) h = rw (h n (omega arith), h (suc n) (omega arith))
 
-slices-same : (size : ℕ) {p q : ℕ → ℕ} (n : ℕ) → ((j : ℕ) → j < n → p j ≡ q j) → slicesOf size p n ≡ slicesOf size q n
+pub slices-same : (size : ℕ) {p q : ℕ → ℕ} (n : ℕ) → ((j : ℕ) → j < n → p j ≡ q j) → slicesOf size p n ≡ slicesOf size q n
 unfolding slicesOf
 slices-same size zero h = refl
 slices-same size (suc n) h = rw (slices-same size n (λ j l. h j (omega arith)), continues-same n h, h n (omega arith))

@@ -1,0 +1,4 @@
+pub mod Statements
+pub mod Isolation
+pub mod Prefix
+pub mod Cases
