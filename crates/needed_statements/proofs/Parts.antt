@@ -64,7 +64,7 @@ module _ (f : File) (len : ℕ) (stage : Stage) {h : Header} (e : placed f len s
   part-byte i m =
       let b = byte-of (slicesAt f stage h) i m in
       let l : b .index < n = rw part-total at (b .below) in
-      record { index = b .index; below = l; at = sym (b .at) ∙ part-place (b .index) l }
+      record { index = b .index; below = omega (arith, l); at = sym (b .at) ∙ part-place (b .index) l }
 
   -- ---- it lies in the file exactly if all that is named does
   pub lies-named : partLies f len stage h ≡ ok tt → (i : ℕ) → Named (slicesAt f stage h) i → i < len
@@ -92,7 +92,7 @@ module _ (f : File) (len : ℕ) (stage : Stage) {h : Header} (e : placed f len s
 pub part-exactly : (f : File) (len : ℕ) (stage : Stage) → PartExactly f len stage
 part-exactly f len stage =
     record {
-      is = λ e i. (part-byte f len stage e i, λ b. rw (b .at) (part-named f len stage e (b .index) (b .below)));
+      is = λ e i. (part-byte f len stage e i, λ b. rw (b .at) (part-named f len stage e (b .index) (omega (arith, b .below))));
       full = λ e. part-full f len stage e;
       length = λ e. part-total f len stage e;
     }
