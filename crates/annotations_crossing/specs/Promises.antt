@@ -12,7 +12,8 @@ use Rattle.numbers.specs.Number.{flag, numberAt}
 use Rattle.numbers.specs.declared.number.Number.{Number}
 use Rattle.annotations.specs.Step.{Stepped, stepAt}
 use Rattle.decode.specs.Decode.{DecodeStop, decodedEntries, decoding}
-use Rattle.lines.specs.Lines.{entries, running, howMany}
+use Rattle.line_entries.specs.Entries.{entries}
+use Rattle.lines.specs.Lines.{running, howMany}
 use Rattle.lines.specs.Promises.{placeOr0}
 use Rattle.line_state.specs.declared.state.Line.{Line}
 use Rattle.crossing.specs.Crossing.{told, Tells}

@@ -13,8 +13,7 @@ use mir.Val.{SFits, toZ, ofZ}
 use Rattle.outcome.specs.Outcome.{_>>_, require}
 use Rattle.outcome.proofs.OutcomeLaws.{by-test}
 use Rattle.annotations.proofs.AnnotationLaws.{stored}
-use Rattle.line_state.specs.Turn.{summed}
-use Rattle.line_state.specs.Inner.{sumIn}
+use Rattle.line_state.specs.Sum.{summed, sumIn}
 use Rattle.line_state.specs.declared.sum.Sum.the-variants.{Is, Outside}
 
 -- ---- the limits

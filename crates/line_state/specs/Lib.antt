@@ -1,3 +1,2 @@
 pub mod State
-pub mod Turn
-pub mod Inner
+pub mod Sum

@@ -72,56 +72,56 @@ impl Position {
     }
 
     // The position with one number changed.
-    pub(crate) fn with_code(mut self, code: u32) -> Self
+    pub fn with_code(mut self, code: u32) -> Self
         ensures { λ r. ⌜ r ≡ withCode self code ⌝ }
     {
         self.code = code;
         self
     }
 
-    pub(crate) fn with_base(mut self, base: u32) -> Self
+    pub fn with_base(mut self, base: u32) -> Self
         ensures { λ r. ⌜ r ≡ withBase self base ⌝ }
     {
         self.base = base;
         self
     }
 
-    pub(crate) fn with_file(mut self, file: u32) -> Self
+    pub fn with_file(mut self, file: u32) -> Self
         ensures { λ r. ⌜ r ≡ withFile self file ⌝ }
     {
         self.file = file;
         self
     }
 
-    pub(crate) fn with_line(mut self, line: i64) -> Self
+    pub fn with_line(mut self, line: i64) -> Self
         ensures { λ r. ⌜ r ≡ withLine self line ⌝ }
     {
         self.line = line;
         self
     }
 
-    pub(crate) fn with_count(mut self, count: u32) -> Self
+    pub fn with_count(mut self, count: u32) -> Self
         ensures { λ r. ⌜ r ≡ withCount self count ⌝ }
     {
         self.count = count;
         self
     }
 
-    pub(crate) fn with_kind(mut self, kind: u32) -> Self
+    pub fn with_kind(mut self, kind: u32) -> Self
         ensures { λ r. ⌜ r ≡ withKind self kind ⌝ }
     {
         self.kind = kind;
         self
     }
 
-    pub(crate) fn with_start(mut self, start: u32) -> Self
+    pub fn with_start(mut self, start: u32) -> Self
         ensures { λ r. ⌜ r ≡ withStart self start ⌝ }
     {
         self.start = start;
         self
     }
 
-    pub(crate) fn with_end(mut self, end: i64) -> Self
+    pub fn with_end(mut self, end: i64) -> Self
         ensures { λ r. ⌜ r ≡ withEnd self end ⌝ }
     {
         self.end = end;

@@ -1,4 +1,3 @@
-pub mod EntryLaws
 pub mod ProgramLaws
 pub mod PassLaws
 pub mod RanLaws

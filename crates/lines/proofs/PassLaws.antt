@@ -25,15 +25,18 @@ use Rattle.judging.specs.declared.stop.Stopped.{Stopped}
 use Rattle.judging.specs.declared.stop.Stopped.the-variants as stopped
 use Rattle.decode.specs.Decode.{decodeAll, rest, DecodeStop}
 use Rattle.line_state.specs.State.{start}
-use Rattle.line_state.specs.Turn.{OrBad, turning}
-use Rattle.line_state.specs.Inner.{turnedIn}
+use Rattle.line_state.specs.Sum.{OrBad}
+use Rattle.line_turn.specs.Turn.{turning}
+use Rattle.line_changes.specs.Inner.{turnedIn}
 use Rattle.line_state.specs.declared.state.Line.{Line}
 use Rattle.line_state.specs.declared.state.State.{State}
-use Rattle.line_state.specs.declared.turns.After.{After}
-use Rattle.line_state.specs.declared.turns.Turned.{Turned}
-use Rattle.line_state.specs.declared.turns.Turned.the-variants as turned
-use Rattle.lines.specs.Lines.{listed, linesFrom, entriesEach, entries, howMany}
-use Rattle.lines.specs.Inner.{Appending, allLines, Accepted, Passing}
+use Rattle.line_changes.specs.declared.After.{After}
+use Rattle.line_changes.specs.declared.Turned.{Turned}
+use Rattle.line_changes.specs.declared.Turned.the-variants as turned
+use Rattle.line_entries.specs.Entries.{listed, entriesEach, entries}
+use Rattle.lines.specs.Lines.{linesFrom, howMany}
+use Rattle.line_entries.specs.Inner.{Appending}
+use Rattle.lines.specs.Inner.{allLines, Accepted, Passing}
 use Rattle.lines.specs.declared.refusal.Refusal.the-variants.{Annotation, BadLine}
 use Rattle.lines.specs.declared.run.Counted.the-variants.{Lines, Refused}
 use Rattle.lines.proofs.ProgramLaws.{listed-few, entries-append, length-entries, before, plus, plus-none, how-many-before, plus-plus, lines-on, lines-bad, lines-end, lines-refused}

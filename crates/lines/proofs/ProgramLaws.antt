@@ -10,13 +10,14 @@ use Rattle.numbers.specs.Refusal.{Stop}
 use Rattle.annotations.specs.Step.{PlacedTriple, annotation, end, stepAt}
 use Rattle.decode.specs.Decode.{rest, DecodeStop, withPlace}
 use Rattle.decode.proofs.RunLaws.{rest-on, rest-end, rest-refused}
-use Rattle.line_state.specs.Turn.{turning}
+use Rattle.line_turn.specs.Turn.{turning}
 use Rattle.line_state.specs.declared.state.Line.{Line}
 use Rattle.line_state.specs.declared.state.MaybeLine.{MaybeLine}
 use Rattle.line_state.specs.declared.state.MaybeLine.the-variants as maybe
 use Rattle.line_state.specs.declared.state.State.{State}
-use Rattle.line_state.specs.declared.turns.After.{After}
-use Rattle.lines.specs.Lines.{listed, program, badLine, linesFrom, lineEntries, entries, entriesEach, howMany}
+use Rattle.line_changes.specs.declared.After.{After}
+use Rattle.line_entries.specs.Entries.{listed, lineEntries, entries, entriesEach}
+use Rattle.lines.specs.Lines.{program, badLine, linesFrom, howMany}
 
 -- ---- lists of records
 pub listed-few : (m : MaybeLine) → length (listed m) ≤ 1

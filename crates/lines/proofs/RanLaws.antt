@@ -11,7 +11,8 @@ use Rattle.outcome.specs.Store.{written}
 use Rattle.outcome.proofs.OutcomeLaws.{ok-is, ok-refused}
 use Rattle.decode.specs.Decode.{DecodeStop}
 use Rattle.line_state.specs.declared.state.Line.{Line}
-use Rattle.lines.specs.Lines.{entriesEach, needed, running, howMany}
+use Rattle.line_entries.specs.Entries.{entriesEach}
+use Rattle.lines.specs.Lines.{needed, running, howMany}
 use Rattle.lines.specs.Promises.{Running}
 use Rattle.lines.specs.Inner.{countedIn, allLines, Accepted, Passing}
 use Rattle.lines.specs.declared.refusal.Refusal.{Refusal}

@@ -10,16 +10,11 @@ use Rattle.outcome.specs.Store.{written}
 use Rattle.decode.specs.Decode.{decodeAll, DecodeStop}
 use Rattle.line_state.specs.State.{start}
 use Rattle.line_state.specs.declared.state.Line.{Line}
-use Rattle.lines.specs.Lines.{linesFrom, entriesEach, entries, howMany}
+use Rattle.line_entries.specs.Entries.{entriesEach, entries}
+use Rattle.lines.specs.Lines.{linesFrom, howMany}
 use Rattle.lines.specs.Promises.{refusalIn}
 use Rattle.lines.specs.declared.run.Counted.{Counted}
 use Rattle.lines.specs.declared.run.Counted.the-variants.{Lines, Refused}
-
--- records put after n others: how many there are then, and the store, if it has room for them
-pub record Appending (lines : List Line) (before : List ℤ) (n : ℕ) (after : List ℤ) (r : ℕ) : Type 0 where
-  pub many : r ≡ n + length lines
-  pub same : length after ≡ length before
-  pub store : entriesEach * (n + length lines) ≤ length before → after ≡ sets before (entriesEach * n) (entries lines)
 
 -- what the answer says on paper
 abbrev pub countedIn : Counted → Outcome DecodeStop ℕ

@@ -5,24 +5,16 @@ use mathlib.Core.List.{List, [], _∷_, _++_}
 use mathlib.Core.Option.{none}
 use lib.ListN.{length}
 use lib.Dec.{leb}
-use lib.IntN.{ℤ, pos, negsuc}
 use Rattle.outcome.specs.Outcome.{Outcome, ok, _>>=_, _>>_, require, raise}
 use Rattle.annotations.specs.Step.{PlacedTriple}
 use Rattle.decode.specs.Decode.{Run, decodeAll, DecodeStop, withPlace, noRoom}
-use Rattle.line_state.specs.State.{start, offsetOf}
-use Rattle.line_state.specs.Turn.{turning}
-use Rattle.line_state.specs.declared.state.Length.{Length}
-use Rattle.line_state.specs.declared.state.Length.the-variants as length
+use Rattle.line_state.specs.State.{start}
 use Rattle.line_state.specs.declared.state.Line.{Line}
-use Rattle.line_state.specs.declared.state.MaybeLine.{MaybeLine}
-use Rattle.line_state.specs.declared.state.MaybeLine.the-variants as maybe
 use Rattle.line_state.specs.declared.state.State.{State}
+use Rattle.line_turn.specs.Turn.{turning}
+use Rattle.line_entries.specs.Entries.{listed, entriesEach}
 
 -- ---- the records
-abbrev pub listed : MaybeLine → List Line
-listed maybe.None = []
-listed (maybe.Some l) = l ∷ []
-
 -- the records of a program that goes on from a state: those that the annotations close, and then the last one. Or the
 -- index of the first annotation that is refused, if the next one has index i
 unfoldable pub program : State → ℕ → List PlacedTriple → Outcome ℕ (List Line)
@@ -46,31 +38,6 @@ linesFrom s i r = do
   ok lines
 
 -- ---- the store
--- "A record is eight signed 64-bit numbers: offset, length (-1 for none), file, line, line count, kind, start column,
--- end column"
-abbrev pub entriesEach : ℕ
-entriesEach = 8
-
-abbrev pub lengthEntry : Length → ℤ
-lengthEntry length.None = negsuc 0
-lengthEntry (length.Bytes n) = pos n
-
-abbrev pub lineEntries : Line → List ℤ
-lineEntries l =
-    pos (offsetOf (l .at))
-    ∷ lengthEntry (l .length)
-    ∷ pos (l .at .file)
-    ∷ l .at .line
-    ∷ pos (l .at .count)
-    ∷ pos (l .at .kind)
-    ∷ pos (l .at .start)
-    ∷ l .at .end
-    ∷ []
-
-unfoldable pub entries : List Line → List ℤ
-entries [] = []
-entries (l ∷ later) = lineEntries l ++ entries later
-
 -- the entries that n records need. Of 2^61 and more, which take a program of 2^62 bytes, 64 bits can say no more
 abbrev pub needed : ℕ → ℕ
 needed n = min (entriesEach * n) (2 ^ 64 - 1)

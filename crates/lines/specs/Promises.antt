@@ -10,7 +10,8 @@ use Rattle.outcome.specs.Outcome.{Outcome, ok, refused}
 use Rattle.outcome.specs.Store.{written}
 use Rattle.numbers.specs.Refusal.{stopIn}
 use Rattle.decode.specs.Decode.{DecodeStop, withPlace, noRoom}
-use Rattle.lines.specs.Lines.{badLine, entries, running, howMany}
+use Rattle.line_entries.specs.Entries.{entries}
+use Rattle.lines.specs.Lines.{badLine, running, howMany}
 use Rattle.lines.specs.declared.refusal.Refusal.{Refusal}
 use Rattle.lines.specs.declared.refusal.Refusal.the-variants as refusal
 use Rattle.lines.specs.declared.run.Ran.{Ran}

@@ -1,14 +1,14 @@
 // Runs the annotations twice. The first pass has no room for a record, so it only counts them, and a refusal has
 // written nothing. The second writes them.
-use crate::entries::ENTRIES_EACH;
-use crate::entries::put;
 use crate::refusal::Refusal;
 use judging::Stopped;
 use judging::found_at;
 use judging::stop_at;
+use line_changes::Turned;
+use line_entries::ENTRIES_EACH;
+use line_entries::put;
 use line_state::State;
-use line_state::Turned;
-use line_state::turn;
+use line_turn::turn;
 ghost use mathlib.Core.Path.{_≡_};
 ghost use Rattle.lines.specs.Lines.{needed};
 ghost use Rattle.lines.specs.Promises.{Running};

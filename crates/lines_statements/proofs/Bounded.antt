@@ -14,7 +14,9 @@ use Rattle.outcome.proofs.OutcomeLaws.{ok-is, ok-refused}
 use Rattle.annotations.specs.Annotation.{triple}
 use Rattle.annotations.specs.Step.{PlacedTriple}
 use Rattle.line_state.specs.State.{start, offsetOf, withCode, withLine, withEnd}
-use Rattle.line_state.specs.Turn.{OrBad, after, lineAt, summed, settled, closed, emission, lengthening, advancingLine, advancingEnd, emissionOnLine, turning}
+use Rattle.line_state.specs.Sum.{OrBad, summed}
+use Rattle.line_changes.specs.Change.{after, lineAt, settled, closed, emission, lengthening, advancingLine, advancingEnd, emissionOnLine}
+use Rattle.line_turn.specs.Turn.{turning}
 use Rattle.line_state.specs.declared.state.Position.{Position}
 use Rattle.line_state.specs.declared.state.Length.{Length}
 use Rattle.line_state.specs.declared.state.Length.the-variants as length
@@ -22,7 +24,7 @@ use Rattle.line_state.specs.declared.state.Line.{Line}
 use Rattle.line_state.specs.declared.state.MaybeLine.{MaybeLine}
 use Rattle.line_state.specs.declared.state.MaybeLine.the-variants as maybe
 use Rattle.line_state.specs.declared.state.State.{State}
-use Rattle.line_state.specs.declared.turns.After.{After}
+use Rattle.line_changes.specs.declared.After.{After}
 use Rattle.lines_statements.specs.Statements.{AllHeld, BoundedPosition, BoundedLine, BoundedState, Bounded, Outside, Ends}
 use Rattle.lines_statements.specs.Statements as held
 use Rattle.lines_statements.specs.Runs.{Runs, none, more}

@@ -6,7 +6,9 @@ use Rattle.annotations.specs.Signed.{signedOf}
 use Rattle.annotations.specs.Annotation.{annotationOf}
 use Rattle.annotations.specs.Step.{operands, stepAt}
 use Rattle.decode.specs.Decode.{onStep, runFrom, rest, decodeAll}
-use Rattle.line_state.specs.Turn.{summed, settled, closed, emission, lengthening, advancingLine, advancingEnd, emissionOnLine, turning}
+use Rattle.line_state.specs.Sum.{summed}
+use Rattle.line_changes.specs.Change.{settled, closed, emission, lengthening, advancingLine, advancingEnd, emissionOnLine}
+use Rattle.line_turn.specs.Turn.{turning}
 use Rattle.lines.specs.Lines.{program, linesFrom, running}
 use Rattle.lines_statements.specs.Cases.{Cases}
 

@@ -13,10 +13,11 @@ use Rattle.annotations.specs.Step.{PlacedTriple}
 use Rattle.annotations.specs.declared.annotation.Triple.{Triple}
 use Rattle.decode.specs.Decode.{decodeAll, DecodeStop}
 use Rattle.line_state.specs.State.{start}
-use Rattle.line_state.specs.Turn.{turning}
+use Rattle.line_turn.specs.Turn.{turning}
 use Rattle.line_state.specs.declared.state.Line.{Line}
 use Rattle.line_state.specs.declared.state.State.{State}
-use Rattle.lines.specs.Lines.{program, entries, running}
+use Rattle.line_entries.specs.Entries.{entries}
+use Rattle.lines.specs.Lines.{program, running}
 use Rattle.lines_statements.specs.Statements.{triplesOf, closesAs, withoutPlace, OnlyThePromise}
 use Rattle.lines_statements.proofs.Runs.{answer, is-answer}
 use Rattle.lines_statements.proofs.Records.{head-is, tail-is, no-head}

@@ -14,7 +14,9 @@ use Rattle.outcome.proofs.OutcomeLaws.{ok-is, ok-refused}
 use Rattle.annotations.specs.Annotation.{emits}
 use Rattle.annotations.specs.Step.{PlacedTriple}
 use Rattle.line_state.specs.State.{start, offsetOf}
-use Rattle.line_state.specs.Turn.{OrBad, lineAt, settled, turning}
+use Rattle.line_state.specs.Sum.{OrBad}
+use Rattle.line_changes.specs.Change.{lineAt, settled}
+use Rattle.line_turn.specs.Turn.{turning}
 use Rattle.line_state.specs.declared.state.Position.{Position}
 use Rattle.line_state.specs.declared.state.Length.{Length}
 use Rattle.line_state.specs.declared.state.Length.the-variants as length
@@ -22,8 +24,8 @@ use Rattle.line_state.specs.declared.state.Line.{Line}
 use Rattle.line_state.specs.declared.state.MaybeLine.{MaybeLine}
 use Rattle.line_state.specs.declared.state.MaybeLine.the-variants as maybe
 use Rattle.line_state.specs.declared.state.State.{State}
-use Rattle.line_state.specs.declared.turns.After.{After}
-use Rattle.lines.specs.Lines.{listed}
+use Rattle.line_changes.specs.declared.After.{After}
+use Rattle.line_entries.specs.Entries.{listed}
 use Rattle.lines_statements.specs.Runs.{Runs, none, more, RunsTo}
 use Rattle.lines_statements.specs.Statements.{emitting, AsMany, lineOf, ownLength, given, HasLength, Lengths}
 use Rattle.lines.proofs.ProgramLaws.{listed-few}

@@ -14,11 +14,13 @@ use Rattle.numbers.specs.Refusal.{Stop}
 use Rattle.annotations.specs.Step.{PlacedTriple}
 use Rattle.decode.specs.Decode.{decodeAll, DecodeStop, withPlace, noRoom}
 use Rattle.line_state.specs.State.{start}
-use Rattle.line_state.specs.Turn.{OrBad, turning}
+use Rattle.line_state.specs.Sum.{OrBad}
+use Rattle.line_turn.specs.Turn.{turning}
 use Rattle.line_state.specs.declared.state.Line.{Line}
 use Rattle.line_state.specs.declared.state.State.{State}
-use Rattle.line_state.specs.declared.turns.After.{After}
-use Rattle.lines.specs.Lines.{listed, program, badLine, linesFrom, entriesEach, needed, running}
+use Rattle.line_changes.specs.declared.After.{After}
+use Rattle.line_entries.specs.Entries.{listed, entriesEach}
+use Rattle.lines.specs.Lines.{program, badLine, linesFrom, needed, running}
 use Rattle.lines_statements.specs.Runs.{Runs, none, more, RunsTo, StopsAt, Ended, RunExactly}
 
 -- ---- from runs to the program

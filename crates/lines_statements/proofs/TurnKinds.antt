@@ -9,7 +9,9 @@ use lib.IntN.{ℤ, natAbs}
 use Rattle.outcome.specs.Outcome.{ok, refused, _>>=_, _>>_, require}
 use Rattle.annotations.specs.Annotation.{triple, emits}
 use Rattle.line_state.specs.State.{offsetOf, withCode, withLine, withEnd}
-use Rattle.line_state.specs.Turn.{OrBad, after, lineAt, summed, settled, closed, emission, lengthening, advancingLine, advancingEnd, emissionOnLine, turning}
+use Rattle.line_state.specs.Sum.{OrBad, summed}
+use Rattle.line_changes.specs.Change.{after, lineAt, settled, closed, emission, lengthening, advancingLine, advancingEnd, emissionOnLine}
+use Rattle.line_turn.specs.Turn.{turning}
 use Rattle.line_state.specs.declared.state.Position.{Position}
 use Rattle.line_state.specs.declared.state.Length.{Length}
 use Rattle.line_state.specs.declared.state.Length.the-variants as length
@@ -17,7 +19,7 @@ use Rattle.line_state.specs.declared.state.Line.{Line}
 use Rattle.line_state.specs.declared.state.MaybeLine.{MaybeLine}
 use Rattle.line_state.specs.declared.state.MaybeLine.the-variants as maybe
 use Rattle.line_state.specs.declared.state.State.{State}
-use Rattle.line_state.specs.declared.turns.After.{After}
+use Rattle.line_changes.specs.declared.After.{After}
 
 abbrev pub stateOf : Position → MaybeLine → State
 stateOf p last = record { at = p; last = last }

@@ -8,10 +8,12 @@ use Rattle.outcome.specs.Outcome.{Outcome, ok, refused, _>>=_}
 use Rattle.annotations.specs.Annotation.{triple}
 use Rattle.decode.specs.Decode.{DecodeStop}
 use Rattle.line_state.specs.State.{start, withLine, withEnd}
-use Rattle.line_state.specs.Turn.{OrBad, turning}
+use Rattle.line_state.specs.Sum.{OrBad}
+use Rattle.line_turn.specs.Turn.{turning}
 use Rattle.line_state.specs.declared.state.State.{State}
-use Rattle.line_state.specs.declared.turns.After.{After}
-use Rattle.lines.specs.Lines.{lineEntries, running}
+use Rattle.line_changes.specs.declared.After.{After}
+use Rattle.line_entries.specs.Entries.{lineEntries}
+use Rattle.lines.specs.Lines.{running}
 
 -- the records of a program as numbers, in a store that is large enough
 abbrev recordsOf : List ℕ → Outcome DecodeStop (List (List ℤ))

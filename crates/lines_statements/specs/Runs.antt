@@ -9,11 +9,12 @@ use Rattle.numbers.specs.Refusal.{Stop}
 use Rattle.annotations.specs.Step.{PlacedTriple}
 use Rattle.decode.specs.Decode.{decodeAll, withPlace, noRoom}
 use Rattle.line_state.specs.State.{start}
-use Rattle.line_state.specs.Turn.{turning}
+use Rattle.line_turn.specs.Turn.{turning}
 use Rattle.line_state.specs.declared.state.Line.{Line}
 use Rattle.line_state.specs.declared.state.State.{State}
-use Rattle.line_state.specs.declared.turns.After.{After}
-use Rattle.lines.specs.Lines.{listed, badLine, entriesEach, needed, running}
+use Rattle.line_changes.specs.declared.After.{After}
+use Rattle.line_entries.specs.Entries.{listed, entriesEach}
+use Rattle.lines.specs.Lines.{badLine, needed, running}
 
 -- these annotations run, from one state to another, and close these records
 pub data Runs : State → List PlacedTriple → State → List Line → Type 0 where

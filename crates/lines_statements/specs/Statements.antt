@@ -18,15 +18,17 @@ use Rattle.annotations.specs.Step.{PlacedTriple}
 use Rattle.annotations.specs.declared.annotation.Triple.{Triple}
 use Rattle.decode.specs.Decode.{decodeAll, DecodeStop}
 use Rattle.line_state.specs.State.{start, offsetOf}
-use Rattle.line_state.specs.Turn.{lineAt, turning}
+use Rattle.line_changes.specs.Change.{lineAt}
+use Rattle.line_turn.specs.Turn.{turning}
 use Rattle.line_state.specs.declared.state.Position.{Position}
 use Rattle.line_state.specs.declared.state.Length.{Length}
 use Rattle.line_state.specs.declared.state.Length.the-variants as length
 use Rattle.line_state.specs.declared.state.Line.{Line}
 use Rattle.line_state.specs.declared.state.MaybeLine.the-variants as maybe
 use Rattle.line_state.specs.declared.state.State.{State}
-use Rattle.line_state.specs.declared.turns.After.{After}
-use Rattle.lines.specs.Lines.{listed, entries, running}
+use Rattle.line_changes.specs.declared.After.{After}
+use Rattle.line_entries.specs.Entries.{listed, entries}
+use Rattle.lines.specs.Lines.{running}
 use Rattle.lines.specs.Promises.{refusalIn, ranIn, Running}
 use Rattle.lines_statements.specs.Runs.{Runs, RunsTo}
 
