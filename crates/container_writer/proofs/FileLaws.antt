@@ -28,9 +28,10 @@ use Rattle.container_layout.proofs.ContainerLaws.{header-magic, header-number, 
 use Rattle.container_pages.specs.Inner.{Filled, Laid, numbersFrom, mapOf}
 use Rattle.container_pages.proofs.FillLaws.{filled-none, filled-more, filled-as, filled-put}
 use Rattle.container_pages.proofs.NumberLaws.{laid-streams, laid-directory, laid-last, laid-used, laid-ranks}
-use Rattle.container_writer.specs.Inner.{Room, PartFilled, Streaming, Given, Streams}
-use Rattle.container_writer.proofs.PartLaws.{size-three, same-pages, laid-bounds}
-use Rattle.container_writer.proofs.StreamLaws.{need-none}
+use Rattle.container_parts.specs.Inner.{Room, PartFilled, Streaming}
+use Rattle.container_writer.specs.Inner.{Given, Streams}
+use Rattle.container_parts.proofs.PartLaws.{size-three, same-pages, laid-bounds}
+use Rattle.container_parts.proofs.StreamLaws.{need-none}
 
 -- ---- `write_header`
 module _ {l : Layout} {sizes : List ℕ} (d : Laid l sizes) {o o₁ o₂ : List ℕ} {r : ℕ} (p : Putting bigMagic o 0 o₁ r) (x : Filled (numbersFrom (headerNumbers (l .pagesize) sizes) 0 32) o₁ 32 (32 + 4 * ((l .pagesize - 32) / 4)) o₂) where

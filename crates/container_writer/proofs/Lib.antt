@@ -1,4 +1,2 @@
-pub mod PartLaws
-pub mod StreamLaws
 pub mod FileLaws
 pub mod WriteLaws

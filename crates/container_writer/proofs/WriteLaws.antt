@@ -37,9 +37,10 @@ use Rattle.container_pages.proofs.FillLaws.{filled-more, filled-as}
 use Rattle.container_pages.proofs.NumberLaws.{laid-streams, laid-directory, laid-last, laid-used, laid-ranks}
 use Rattle.container_writer.specs.Writing.{firstBytes, writing}
 use Rattle.container_writer.specs.Promises.{writtenIn, Writing}
-use Rattle.container_writer.specs.Inner.{Room, Numbering, Given, Streams, Data}
+use Rattle.container_parts.specs.Inner.{Room, Numbering}
+use Rattle.container_writer.specs.Inner.{Given, Streams, Data}
 use Rattle.container_writer.specs.declared.write.Written.the-variants as written′
-use Rattle.container_writer.proofs.PartLaws.{size-three, laid-bounds}
+use Rattle.container_parts.proofs.PartLaws.{size-three, laid-bounds}
 use Rattle.container_writer.proofs.FileLaws.{filled-part, last-after, file-room}
 
 -- ---- the first bytes of a file

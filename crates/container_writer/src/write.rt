@@ -1,6 +1,4 @@
 // Writing a container. Everything is judged first, so a refusal has written nothing.
-use crate::parts::write_numbers;
-use crate::parts::write_stream;
 use container_layout::Layout;
 use container_layout::Planned;
 use container_layout::Refusal;
@@ -9,6 +7,8 @@ use container_layout::present_bytes;
 use container_pages::Numbers;
 use container_pages::put_numbers;
 use container_pages::put_zeros;
+use container_parts::write_numbers;
+use container_parts::write_stream;
 use store::put;
 ghost use mathlib.Core.Path.{_≡_};
 ghost use Prim.Native.Nat.{_*_, _≤_};

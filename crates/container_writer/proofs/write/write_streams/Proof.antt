@@ -3,7 +3,7 @@
 use Prim.Native.Nat.{_-_}
 use borrow.Author.Needs.{needs}
 use lib.ListN.{length}
-use Rattle.container_writer.proofs.PartLaws.{laid-bounds}
+use Rattle.container_parts.proofs.PartLaws.{laid-bounds}
 use Rattle.container_writer.proofs.FileLaws.{Streams-so-far, streams-none, streams-part, streams-fits, streams-short, streams-room, streams-more, streams-all}
 use Rattle.container_writer.proofs.write.write_streams.Statement.{statement}
 use Rattle.container_writer.proofs.write.write_streams.Tie as tie

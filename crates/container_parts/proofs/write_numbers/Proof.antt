@@ -3,9 +3,9 @@
 use Prim.Native.Nat.{_-_}
 use borrow.Author.Needs.{needs}
 use Rattle.container_pages.specs.Inner.{numbersOf}
-use Rattle.container_writer.proofs.PartLaws.{Pages-so-far, pages-cases, laid-bounds, page-rank, page-rank-fits, page-begins, page-index, page-numbers, page-fits}
-use Rattle.container_writer.proofs.parts.write_numbers.Statement.{statement}
-use Rattle.container_writer.proofs.parts.write_numbers.Tie as tie
+use Rattle.container_parts.proofs.PartLaws.{Pages-so-far, pages-cases, laid-bounds, page-rank, page-rank-fits, page-begins, page-index, page-numbers, page-fits}
+use Rattle.container_parts.proofs.write_numbers.Statement.{statement}
+use Rattle.container_parts.proofs.write_numbers.Tie as tie
 
 abbrev Inv-loop : tie.InvT-loop
 Inv-loop l sizes which first pages out₀ each j₀ out j =

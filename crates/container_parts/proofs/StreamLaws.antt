@@ -20,8 +20,8 @@ use Rattle.container_layout.proofs.PlaceLaws.{times-le, data-next, after-one, a
 use Rattle.container_layout.proofs.LayoutLaws.{data-most}
 use Rattle.container_pages.specs.Inner.{Filled, Within, Bounds, Beginning}
 use Rattle.container_pages.proofs.FillLaws.{filled-none, filled-more, filled-as, filled-put}
-use Rattle.container_writer.specs.Inner.{Room, InRun, part, PartFilled, Streaming}
-use Rattle.container_writer.proofs.PartLaws.{size-three, same-pages, part-run, room-run}
+use Rattle.container_parts.specs.Inner.{Room, InRun, part, PartFilled, Streaming}
+use Rattle.container_parts.proofs.PartLaws.{size-three, same-pages, part-run, room-run}
 
 -- ---- need(b) after whole pages
 module _ (p : ℕ) (h : 0 < p) where

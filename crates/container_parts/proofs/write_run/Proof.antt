@@ -1,9 +1,9 @@
 -- The map pages before, the bytes, and zeros to the end of their last page.
 -- Assumes a layout whose numbers have 32 bits, that no map page lies between, and the room.
 use borrow.Author.Needs.{needs}
-use Rattle.container_writer.proofs.StreamLaws.{run-rank, run-begins, run-room, run-bytes, run-end, run-next, run-tail, run-written}
-use Rattle.container_writer.proofs.parts.write_run.Statement.{statement}
-use Rattle.container_writer.proofs.parts.write_run.Tie as tie
+use Rattle.container_parts.proofs.StreamLaws.{run-rank, run-begins, run-room, run-bytes, run-end, run-next, run-tail, run-written}
+use Rattle.container_parts.proofs.write_run.Statement.{statement}
+use Rattle.container_parts.proofs.write_run.Tie as tie
 
 begin-page-requires : tie.Need-begin-page-requires
 begin-page-requires c κs = search (run-rank, run-begins)

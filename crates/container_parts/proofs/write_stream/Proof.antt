@@ -3,9 +3,9 @@
 use Prim.Native.Nat.{_-_}
 use borrow.Author.Needs.{needs}
 use lib.ListN.{length}
-use Rattle.container_writer.proofs.StreamLaws.{Stream-so-far, stream-none, run-mul, stream-less, stream-in-run, stream-room, stream-more, stream-all}
-use Rattle.container_writer.proofs.parts.write_stream.Statement.{statement}
-use Rattle.container_writer.proofs.parts.write_stream.Tie as tie
+use Rattle.container_parts.proofs.StreamLaws.{Stream-so-far, stream-none, run-mul, stream-less, stream-in-run, stream-room, stream-more, stream-all}
+use Rattle.container_parts.proofs.write_stream.Statement.{statement}
+use Rattle.container_parts.proofs.write_stream.Tie as tie
 
 abbrev Inv-loop : tie.InvT-loop
 Inv-loop l first stream out₀ size r₀ i₀ out r i = Stream-so-far l first stream out₀ out i r

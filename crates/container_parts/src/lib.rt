@@ -1,4 +1,4 @@
-// The data pages of one part, with the map pages that lie before them. A part begins a page, and what it leaves of its
+// The data pages of one part of a container (a stream, the directory or the location list), with the map pages that lie before them. A part begins a page, and what it leaves of its
 // last page is zeros.
 use container_layout::Layout;
 use container_layout::pages_to_map;
@@ -13,11 +13,11 @@ ghost use Prim.Native.Nat.{_+_, _*_, _/_, _^_, _<_};
 ghost use lib.ListN.{length};
 ghost use Rattle.paged.specs.PageSize.{need};
 ghost use Rattle.container_pages.specs.Inner.{Bounds, Laid, numbersOf};
-ghost use Rattle.container_writer.specs.Inner.{Room, InRun, Streaming, Numbering};
+ghost use Rattle.container_parts.specs.Inner.{Room, InRun, Streaming, Numbering};
 
 // A stream, from the data page of this rank on. Returns the rank of the next part. It is copied a run at a time: all
 // pages up to the next map page, or to the stream's end. The caller guarantees the room.
-pub(crate) fn write_stream(l: Layout, first: usize, stream: &[u8], out: &mut [u8]) -> usize
+pub fn write_stream(l: Layout, first: usize, stream: &[u8], out: &mut [u8]) -> usize
     requires { ⌜ Bounds l ⌝ }
     requires { ⌜ length (now stream) < 2 ^ 32 ⌝ }
     requires { ⌜ Room l (first + need (l .pagesize) (length (now stream))) (length (now out)) ⌝ }
@@ -51,7 +51,7 @@ fn write_run(l: Layout, first: usize, run: &[u8], out: &mut [u8]) -> usize
 
 // So many pages of numbers, from the data page of this rank on. The caller guarantees the layout of these sizes, and
 // the room.
-pub(crate) fn write_numbers(
+pub fn write_numbers(
     l: Layout,
     sizes: &[u32],
     which: Numbers,

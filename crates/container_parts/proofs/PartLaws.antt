@@ -23,7 +23,7 @@ use Rattle.container_layout.proofs.ContainerLaws.{with-data}
 use Rattle.container_pages.specs.Inner.{Filled, Bounds, Laid, numbersFrom, mapOf, Beginning}
 use Rattle.container_pages.proofs.FillLaws.{filled-none, filled-more, filled-as}
 use Rattle.container_pages.proofs.NumberLaws.{laid-last, laid-used}
-use Rattle.container_writer.specs.Inner.{Room, part, PartFilled, Numbering}
+use Rattle.container_parts.specs.Inner.{Room, part, PartFilled, Numbering}
 
 -- ---- two files with the same maps, whose data is the same from rank a up to rank b
 module _ (p : ℕ) (big : 3 ≤ p) (map : ℕ → ℕ → ℕ) {body body′ : ℕ → ℕ} (a b : ℕ) (same : (j : ℕ) → a * p ≤ j → j < b * p → body j ≡ body′ j) where
