@@ -79,6 +79,9 @@ enum {
 /* The length of a line record that has none, in the store of trovespan_run_lines. */
 #define TROVESPAN_NO_LENGTH INT64_C(-1)
 
+/* How many bytes at the start of the file every function on containers reads first. */
+#define TROVESPAN_HEADER_BLOCK 4096
+
 /* The size that stands for an absent stream in the list that trovespan_write_container takes. */
 #define TROVESPAN_ABSENT UINT32_C(0xffffffff)
 
@@ -98,6 +101,25 @@ uint32_t trovespan_stream_count(const uint8_t *file, size_t file_len, uint64_t *
  */
 uint32_t trovespan_map(const uint8_t *file, size_t file_len, uint32_t stream, bool limited, size_t limit, uint64_t *offsets,
                        size_t offsets_len, uint64_t *sizes, size_t sizes_len, uint64_t *value, uint64_t *total);
+
+/*
+ * Finds which parts of the file trovespan_map reads after the first TROVESPAN_HEADER_BLOCK bytes, and before it comes to the
+ * stream: the slices of the directory if `directory`, else those of the location list, which has the directory's page
+ * numbers. Writes where each slice begins to `offsets`, and its length to `sizes`. `value` is the number of slices, `total`
+ * the number of bytes in all of them.
+ *
+ * This is for a caller that has not got the whole file. The slices of the location list are found in the header block alone,
+ * those of the directory in the header block and the location list. Two files that agree on the header block and on these
+ * slices, and are long enough to hold them, have the same stream count and the same mapping of each stream, whatever their
+ * lengths.
+ *
+ * Refuses as trovespan_open does; if `directory`, also with 6 if the location list is not all in the file, and with 4 for a
+ * page number in it; then with 10 if the shorter store has fewer entries than there are slices. A slice may lie past the end
+ * of the file; trovespan_stream_count and trovespan_map refuse that.
+ */
+uint32_t trovespan_needed_to_map(const uint8_t *file, size_t file_len, bool directory, uint64_t *offsets,
+                                 size_t offsets_len, uint64_t *sizes, size_t sizes_len, uint64_t *value,
+                                 uint64_t *total);
 
 /*
  * Copies a stream, or its first `limit` bytes if `limited`, to the front of `out`. `value` is the number of bytes copied.

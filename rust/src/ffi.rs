@@ -34,6 +34,17 @@ mod c {
             value: *mut u64,
             total: *mut u64,
         ) -> u32;
+        pub fn trovespan_needed_to_map(
+            file: *const u8,
+            file_len: usize,
+            directory: bool,
+            offsets: *mut u64,
+            offsets_len: usize,
+            sizes: *mut u64,
+            sizes_len: usize,
+            value: *mut u64,
+            total: *mut u64,
+        ) -> u32;
         pub fn trovespan_extract(
             file: *const u8,
             file_len: usize,
@@ -133,6 +144,26 @@ pub fn map(file: &[u8], stream: u32, limit: Option<usize>, offsets: &mut [u64], 
             stream,
             limit.is_some(),
             limit.unwrap_or(0),
+            offsets.as_mut_ptr(),
+            offsets.len(),
+            sizes.as_mut_ptr(),
+            sizes.len(),
+            &mut value,
+            &mut total,
+        )
+    };
+    (number, value, total)
+}
+
+pub fn needed_to_map(file: &[u8], directory: bool, offsets: &mut [u64], sizes: &mut [u64]) -> (u32, u64, u64) {
+    let (mut value, mut total) = (0, 0);
+    // SAFETY: `file`, `offsets` and `sizes` are borrowed for the call, each with its own length, and the two stores
+    // mutably, so they overlap nothing; `value` and `total` are different local numbers.
+    let number = unsafe {
+        c::trovespan_needed_to_map(
+            file.as_ptr(),
+            file.len(),
+            directory,
             offsets.as_mut_ptr(),
             offsets.len(),
             sizes.as_mut_ptr(),

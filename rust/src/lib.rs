@@ -5,6 +5,7 @@
 //! - Below these, [`open`], [`stream_count`], [`map`] and [`extract`] read a container into stores that the caller
 //!   lends, and [`number`], [`step`] and [`decode`] read annotations as numbers, and say whether these have their
 //!   shortest form.
+//! - [`needed_to_map`] returns which parts of a file [`map`] reads, for a caller that has not got the whole file.
 //! - [`write_container`] and [`write_annotations`] write them, into stores that the caller lends.
 //! - [`run_lines`] runs annotations as a line program, into such a store, and [`line_records`] reads its line records.
 //!
@@ -125,7 +126,8 @@ pub use iter::{annotations, Annotations, PlacedAnnotation, PlacedRefusal};
 pub use lines::{line_records, run_lines, LineRecord, LineRecords, LINE_ENTRIES};
 #[cfg(feature = "alloc")]
 pub use mapping::{map_to_vec, MapError, SourceSlice, AT_MOST_SLICES};
-pub use msf::{extract, map, open, slice_count, stream_count, stream_length, write_container, Mapped, Opened, ABSENT};
+pub use msf::{extract, map, needed_to_map, open, slice_count, stream_count, stream_length, write_container};
+pub use msf::{Mapped, Opened, Stage, ABSENT, HEADER_BLOCK};
 pub use refusal::{Kind, Refusal};
 
 /// The examples of the readme, as tests.

@@ -13,7 +13,7 @@ pub struct Opened {
     pub pages_used: u32,
 }
 
-/// What [`map`] returns.
+/// What [`map`] and [`needed_to_map`] return.
 #[derive(Clone, Copy, Debug, PartialEq, Eq, Hash)]
 #[non_exhaustive]
 pub struct Mapped {
@@ -74,6 +74,66 @@ pub fn extract(file: &[u8], stream: u32, limit: Option<usize>, out: &mut [u8]) -
     let (number, value) = ffi::extract(file, stream, limit, out);
     Refusal::judge(number, value)?;
     Ok(value as usize)
+}
+
+/// How many bytes at the start of the file every function reads first: the header block. A shorter file is refused with
+/// 1.
+pub const HEADER_BLOCK: usize = 4096;
+
+/// What [`map`] reads after the header block and before it comes to the stream, in this order.
+#[derive(Clone, Copy, Debug, PartialEq, Eq, Hash)]
+pub enum Stage {
+    /// The page numbers of the directory.
+    LocationList,
+    /// The number of streams, their sizes and their page numbers.
+    Directory,
+}
+
+/// Returns which parts of the file [`map`] reads before it comes to the stream: the slices of a stage. Writes where each
+/// slice begins to `offsets`, and its length to `sizes`. The slices, in order, are the location list or the directory.
+///
+/// This is for a caller that has not got the whole file. The slices of [`Stage::LocationList`] are found in the header
+/// block alone, those of [`Stage::Directory`] in the header block and the location list. Two files that agree on the
+/// header block and on the slices of both stages, and are long enough to hold them, have the same stream count and the
+/// same mapping of each stream, whatever their lengths. So a file with these parts where they belong, and anything
+/// elsewhere, can be lent to [`map`] instead of the file itself.
+///
+/// # Errors
+///
+/// Refuses as [`open`] does; for [`Stage::Directory`] also with 6 if the location list is not all in the file, and with
+/// 4 for a page number in it; then with 10 if the shorter store has fewer entries than there are slices. A slice of the
+/// stage itself may lie past the end of the file; [`stream_count`] and [`map`] refuse that.
+///
+/// ```
+/// use trovespan::{map, needed_to_map, Refusal, Stage, HEADER_BLOCK};
+///
+/// // Pages of 256 bytes: page 17 has the location list, page 20 the directory, page 18 the stream.
+/// let mut file = vec![0xaa; 24 * 256];
+/// file[..32].copy_from_slice(b"Microsoft C/C++ MSF 7.00\r\n\x1a\x44\x53\x00\x00\x00");
+/// for (at, word) in [(32, 256_u32), (40, 24), (44, 12), (52, 17), (4352, 20), (5120, 1), (5124, 5), (5128, 18)] {
+///     file[at..at + 4].copy_from_slice(&word.to_le_bytes());
+/// }
+///
+/// // Each stage needs no more than what was found before it.
+/// let (mut offset, mut size) = ([0], [0]);
+/// needed_to_map(&file[..HEADER_BLOCK], Stage::LocationList, &mut offset, &mut size)?;
+/// assert_eq!((offset, size), ([4352], [4]));
+/// needed_to_map(&file[..4356], Stage::Directory, &mut offset, &mut size)?;
+/// assert_eq!((offset, size), ([5120], [12]));
+///
+/// // The rest of the file makes no difference to mapping.
+/// let mut parts = vec![0; 5132];
+/// for part in [0..HEADER_BLOCK, 4352..4356, 5120..5132] {
+///     parts[part.clone()].copy_from_slice(&file[part]);
+/// }
+/// assert_eq!(map(&parts, 0, None, &mut offset, &mut size), map(&file, 0, None, &mut [0], &mut [0]));
+/// assert_eq!((offset, size), ([4608], [5]));
+/// # Ok::<(), Refusal>(())
+/// ```
+pub fn needed_to_map(file: &[u8], stage: Stage, offsets: &mut [u64], sizes: &mut [u64]) -> Result<Mapped, Refusal> {
+    let (number, value, total) = ffi::needed_to_map(file, stage == Stage::Directory, offsets, sizes);
+    Refusal::judge(number, value)?;
+    Ok(Mapped { slices: value as usize, length: total as usize })
 }
 
 /// The size that stands for an absent stream in the list that [`write_container`] takes.

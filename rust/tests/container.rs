@@ -5,7 +5,7 @@ mod files;
 
 use fields::{map_counts, opened};
 use files::*;
-use trovespan::{extract, stream_count, Refusal};
+use trovespan::{extract, needed_to_map, stream_count, Refusal, Stage, HEADER_BLOCK};
 
 /// What a store holds before a call.
 const BEFORE: u64 = 0xdead_beef_dead_beef;
@@ -91,6 +91,43 @@ fn mapped(
     assert!(offsets[written..].iter().chain(&sizes[written..]).all(|entry| *entry == BEFORE));
     let (slices, length) = answer?;
     Ok((offsets.into_iter().zip(sizes).take(slices).collect(), length))
+}
+
+/// Asks what a stage needs, into stores of `rooms` entries, and checks the same.
+fn needed(file: &[u8], stage: Stage, rooms: (usize, usize)) -> Result<(Vec<(u64, u64)>, usize), Refusal> {
+    let (mut offsets, mut sizes) = (vec![BEFORE; rooms.0], vec![BEFORE; rooms.1]);
+    let answer = needed_to_map(file, stage, &mut offsets, &mut sizes).map(|mapped| (mapped.slices, mapped.length));
+    let written = answer.map_or(0, |(slices, _)| slices);
+    assert!(offsets[written..].iter().chain(&sizes[written..]).all(|entry| *entry == BEFORE));
+    let (slices, length) = answer?;
+    Ok((offsets.into_iter().zip(sizes).take(slices).collect(), length))
+}
+
+const STAGES: [Stage; 2] = [Stage::LocationList, Stage::Directory];
+
+/// The file with the header block and what both stages need, zeros between these, and nothing after them. `None` if the
+/// file does not have all of these.
+fn parts_of(file: &[u8]) -> Option<Vec<u8>> {
+    let mut parts = file.get(..HEADER_BLOCK)?.to_vec();
+    for stage in STAGES {
+        for (at, size) in needed(&parts, stage, (1000, 1000)).ok()?.0 {
+            let part = at as usize..(at + size) as usize;
+            parts.resize(parts.len().max(part.end), 0);
+            parts[part.clone()].copy_from_slice(file.get(part)?);
+        }
+    }
+    Some(parts)
+}
+
+/// F with a directory of 16,400 bytes, which has 65 pages: its location list takes pages 3 and 5. The directory has page 4
+/// and then by turns page 20 and 21.
+fn f_wide() -> Vec<u8> {
+    let mut file = f_with(DIRECTORY_SIZE, 16_400);
+    put(&mut file, LOCATION_ENTRY, &[3, 5]);
+    put(&mut file, LOCATION_LIST, &[20, 21].repeat(32));
+    put(&mut file, LOCATION_LIST, &[4]);
+    put(&mut file, 5 * 256, &[20]);
+    file
 }
 
 /// Extracts into a store of `room` bytes, and checks the same.
@@ -282,4 +319,114 @@ fn the_room_of_an_extraction_is_judged_after_the_limit() {
     assert_eq!(extracted(&f(), 2, Some(1), 0), Err(refusal(10, 1)));
     assert_eq!(extracted(&f(), 2, Some(0), 0), Ok(vec![]));
     assert_eq!(extracted(&f_with(SIZE_0, 0), 0, None, 0), Ok(vec![]));
+}
+
+#[test]
+fn needs_the_location_list_and_the_directory() {
+    assert_eq!(needed(&f(), Stage::LocationList, (1, 1)), Ok((vec![(768, 4)], 4)));
+    assert_eq!(needed(&f(), Stage::Directory, (1, 1)), Ok((vec![(1024, 36)], 36)));
+    let file = f_with(DIRECTORY_SIZE, 0);
+    for stage in STAGES {
+        assert_eq!(needed(&file, stage, (0, 0)), Ok((vec![], 0)));
+    }
+}
+
+/// 65 pages are named in 260 bytes. Pages 20 and 21 are neighbours, and 21 and 20 are not.
+#[test]
+fn needs_pages_in_one_slice_where_they_are_neighbours() {
+    assert_eq!(needed(&f_wide(), Stage::LocationList, (2, 2)), Ok((vec![(768, 256), (1280, 4)], 260)));
+    // Page 4, page 21, 31 times pages 20 and 21, and 16 bytes of page 20.
+    let mut slices = vec![(1024, 256), (5376, 256)];
+    slices.extend([(5120, 512); 31]);
+    slices.push((5120, 16));
+    assert_eq!(needed(&f_wide(), Stage::Directory, (40, 40)), Ok((slices, 16_400)));
+    let mut file = f_wide();
+    put(&mut file, LOCATION_ENTRY, &[3, 4]);
+    assert_eq!(needed(&file, Stage::LocationList, (1, 1)), Ok((vec![(768, 260)], 260)));
+}
+
+#[test]
+fn a_stage_reads_what_was_needed_before_it_and_no_more() {
+    // The location list of F is in the header block.
+    for stage in STAGES {
+        assert_eq!(needed(&f_cut(HEADER_BLOCK), stage, (1, 1)), needed(&f(), stage, (1, 1)));
+    }
+    let mut far = f_with(LOCATION_ENTRY, 20);
+    put(&mut far, 20 * 256, &[4]);
+    for length in [HEADER_BLOCK, 20 * 256 + 3] {
+        assert_eq!(needed(&far[..length], Stage::LocationList, (1, 1)), Ok((vec![(5120, 4)], 4)));
+        assert_eq!(needed(&far[..length], Stage::Directory, (1, 1)), Err(refusal(6, 0)));
+    }
+    assert_eq!(needed(&far[..20 * 256 + 4], Stage::Directory, (1, 1)), Ok((vec![(1024, 36)], 36)));
+}
+
+#[test]
+fn needs_what_is_past_the_file() {
+    assert_eq!(needed(&f_past(LOCATION_ENTRY), Stage::LocationList, (1, 1)), Ok((vec![(6144, 4)], 4)));
+    assert_eq!(needed(&f_past(LOCATION_LIST), Stage::Directory, (1, 1)), Ok((vec![(6144, 36)], 36)));
+    let mut file = f_with(PAGE_SIZE, 0x80_0000);
+    put(&mut file, PAGES_USED, &[u32::MAX]);
+    put(&mut file, LOCATION_ENTRY, &[u32::MAX - 1]);
+    let offset = 0xffff_fffe * 0x80_0000;
+    assert_eq!(needed(&file, Stage::LocationList, (1, 1)), Ok((vec![(offset, 4)], 4)));
+}
+
+#[test]
+fn refuses_what_mapping_refuses_before_it_comes_there() {
+    for rooms in [(0, 0), (3, 3)] {
+        for (file, why) in unopened() {
+            for stage in STAGES {
+                assert_eq!(needed(&file, stage, rooms), Err(why));
+            }
+        }
+    }
+    for (at, word, why) in [
+        (LOCATION_LIST, 0, refusal(4, 0)),
+        (LOCATION_LIST, 24, refusal(4, 24)),
+        (LOCATION_LIST, 25, refusal(4, 25)),
+        (PAGES_USED, 4, refusal(4, 4)),
+    ] {
+        assert_eq!(needed(&f_with(at, word), Stage::Directory, (0, 0)), Err(why));
+        assert_eq!(needed(&f_with(at, word), Stage::LocationList, (1, 1)), Ok((vec![(768, 4)], 4)));
+    }
+    assert_eq!(needed(&f_past(LOCATION_ENTRY), Stage::Directory, (0, 0)), Err(refusal(6, 0)));
+    // The end of the file is judged before page numbers, and the room last.
+    let mut file = f_past(LOCATION_ENTRY);
+    put(&mut file, DIRECTORY_SIZE, &[256 * 65]);
+    put(&mut file, LOCATION_ENTRY, &[3, 24]);
+    put(&mut file, LOCATION_LIST, &[0]);
+    assert_eq!(needed(&file, Stage::Directory, (0, 0)), Err(refusal(6, 0)));
+}
+
+#[test]
+fn the_shorter_store_is_the_room_of_what_is_needed() {
+    for (stage, slices) in [(Stage::LocationList, 2), (Stage::Directory, 34)] {
+        assert!(needed(&f_wide(), stage, (slices, slices)).is_ok());
+        for rooms in [(0, 0), (slices - 1, slices), (slices, slices - 1), (0, 40), (40, 0)] {
+            assert_eq!(needed(&f_wide(), stage, rooms), Err(refusal(10, slices as u64)));
+        }
+    }
+    assert_eq!(needed(&f_with(LOCATION_LIST, 0), Stage::Directory, (0, 0)), Err(refusal(4, 0)));
+}
+
+/// Whatever the rest of the file is, and however long.
+#[test]
+fn the_needed_parts_are_mapped_as_the_file() {
+    let mut files: Vec<Vec<u8>> = all_unmapped().into_iter().map(|(file, ..)| file).collect();
+    files.extend(past_the_file().into_iter().map(|(file, _)| file));
+    files.extend([f(), f_wide(), f_with(LAST_PAGE, 23), hostile()]);
+    let parts: Vec<_> = files.iter().filter_map(|file| Some((file, parts_of(file)?))).collect();
+    assert_eq!(parts.len(), 21);
+    for (file, parts) in parts {
+        let mut longer = parts.clone();
+        longer.resize(file.len() + 1000, 0xff);
+        for part in [&parts, &longer] {
+            assert_eq!(stream_count(part), stream_count(file));
+            for stream in 0..4 {
+                for limit in LIMITS {
+                    assert_eq!(mapped(part, stream, limit, (9, 9)), mapped(file, stream, limit, (9, 9)));
+                }
+            }
+        }
+    }
 }

@@ -9,8 +9,8 @@ mod fields;
 
 use fields::{map_counts, opened, stepped, Found};
 use trovespan::{
-    annotations, decode, extract, number, run_lines, slice_count, stream_count, stream_length, write_annotations,
-    write_container, DecodeRefusal, Number, Refusal,
+    annotations, decode, extract, needed_to_map, number, run_lines, slice_count, stream_count, stream_length,
+    write_annotations, write_container, DecodeRefusal, Number, Refusal, Stage,
 };
 
 const VALUE: u64 = 0xfedc_ba98_7654_3210;
@@ -45,6 +45,22 @@ unsafe extern "C" fn trovespan_map(
     total: *mut u64,
 ) -> u32 {
     (*value, *total) = (VALUE, if limited { limit as u64 } else { OTHER });
+    u32::from(*file)
+}
+
+#[no_mangle]
+unsafe extern "C" fn trovespan_needed_to_map(
+    file: *const u8,
+    _: usize,
+    directory: bool,
+    _: *mut u64,
+    _: usize,
+    _: *mut u64,
+    _: usize,
+    value: *mut u64,
+    total: *mut u64,
+) -> u32 {
+    (*value, *total) = if directory { (VALUE, OTHER) } else { (OTHER, VALUE) };
     u32::from(*file)
 }
 
@@ -166,6 +182,18 @@ fn mapping() {
         assert_eq!(map_counts(&[0], 0, Some(limit as usize), &mut [], &mut []), mapped(limit));
     }
     assert_eq!(map_counts(&[10], 0, None, &mut [], &mut []), Err(refusal(10)));
+}
+
+#[test]
+fn what_mapping_needs() {
+    for (stage, value, total) in [(Stage::Directory, VALUE, OTHER), (Stage::LocationList, OTHER, VALUE)] {
+        let needed = |number| needed_to_map(&[number], stage, &mut [], &mut []);
+        let counts = needed(0).map(|mapped| (mapped.slices, mapped.length));
+        assert_eq!(counts, Ok((value as usize, total as usize)));
+        for number in [4, 10] {
+            assert_eq!(needed(number), Err(Refusal { number: number.into(), value }));
+        }
+    }
 }
 
 #[test]

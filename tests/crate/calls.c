@@ -92,6 +92,28 @@ static void map(void) {
     CHECK(value == 2 && total == 513 && sizes[1] == 1);
 }
 
+static void needed_to_map(void) {
+    uint64_t offsets[2], sizes[2], value = 77, total = 77;
+    memset(offsets, UNTOUCHED, sizeof offsets);
+    memset(sizes, UNTOUCHED, sizeof sizes);
+    CHECK(trovespan_needed_to_map(file, 4095, false, offsets, 2, sizes, 2, &value, &total) ==
+          TROVESPAN_UNRECOGNIZED_FILE_FORMAT);
+    CHECK(value == 0 && total == 0);
+    file[768] = 24; /* the page of the directory */
+    CHECK(trovespan_needed_to_map(file, sizeof file, true, offsets, 2, sizes, 2, &value, &total) ==
+          TROVESPAN_PAGE_REFERENCE_OUT_OF_RANGE);
+    CHECK(value == 24 && total == 0);
+    file[768] = 4;
+    CHECK(trovespan_needed_to_map(file, sizeof file, true, offsets, 2, NULL, 0, &value, &total) == TROVESPAN_NO_ROOM);
+    CHECK(value == 1 && total == 0);
+    CHECK(untouched(offsets, sizeof offsets) && untouched(sizes, sizeof sizes));
+    CHECK(trovespan_needed_to_map(file, TROVESPAN_HEADER_BLOCK, false, offsets, 2, sizes, 2, &value, &total) == 0);
+    CHECK(value == 1 && total == 4 && offsets[0] == 768 && sizes[0] == 4);
+    CHECK(trovespan_needed_to_map(file, TROVESPAN_HEADER_BLOCK, true, offsets, 2, sizes, 1, &value, &total) == 0);
+    CHECK(value == 1 && total == 36 && offsets[0] == 1024 && sizes[0] == 36);
+    CHECK(untouched(offsets + 1, 8) && untouched(sizes + 1, 8));
+}
+
 static void extract(void) {
     uint8_t out[601];
     uint64_t value = 77;
@@ -299,6 +321,7 @@ int main(void) {
     make_f();
     open_and_count();
     map();
+    needed_to_map();
     extract();
     numbers();
     annotations();
