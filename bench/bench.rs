@@ -7,6 +7,7 @@
 //! and dropping its answer.
 
 mod cases;
+mod clock;
 mod inputs;
 mod reckoning;
 mod timing;
@@ -15,7 +16,8 @@ use std::io::{self, Write};
 use std::iter::once;
 
 use cases::{cases, Case};
-use timing::{measure, Call, Runs, Stores, REFUSED, RUNS};
+use clock::{shown as time, Runs, RUNS};
+use timing::{measure, Call, Stores, REFUSED};
 
 const HEAD: &str =
     "# X and Y are the processor time of a call, or million bytes of the streams or of \
@@ -95,12 +97,4 @@ fn write_doublings(out: &mut impl Write, whole: &[Case], stores: &mut Stores) ->
         )?;
     }
     Ok(())
-}
-
-fn time(seconds: f64) -> String {
-    match seconds {
-        s if s < 1e-6 => format!("{:.0} ns", s * 1e9),
-        s if s < 1e-3 => format!("{:.1} us", s * 1e6),
-        s => format!("{:.1} ms", s * 1e3),
-    }
 }
