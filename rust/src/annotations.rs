@@ -85,6 +85,7 @@ pub fn number(bytes: &[u8], at: usize) -> (Result<Number, Refusal>, usize) {
 /// assert_eq!(trovespan::step(&[6, 15], 2), (Step::End, 2));
 /// ```
 #[must_use]
+#[inline]
 pub fn step(bytes: &[u8], at: usize) -> (Step, usize) {
     let (number, value, first, second, shortest, next) = ffi::step(bytes, at);
     let step = match (Refusal::judge(number, value), value as u32) {

@@ -49,6 +49,7 @@ impl BinaryAnnotation {
     /// assert_eq!(BinaryAnnotation::new(14, 0, 0), None);
     /// ```
     #[must_use]
+    #[inline]
     pub fn new(opcode: u32, first: i64, second: i64) -> Option<Self> {
         let unsigned = |operand: i64| u32::try_from(operand).ok();
         let signed = |operand: i64| i32::try_from(operand).ok();

@@ -204,6 +204,7 @@ pub fn number(bytes: &[u8], at: usize) -> (u32, u64, u64, u64, u64) {
     (number, value, taken, shortest, next)
 }
 
+#[inline]
 pub fn step(bytes: &[u8], at: usize) -> (u32, u64, i64, i64, u64, u64) {
     let (mut value, mut first, mut second, mut shortest, mut next) = (0, 0, 0, 0, 0);
     // SAFETY: `bytes` is borrowed for the call, with its own length; `value`, `first`, `second`, `shortest` and `next`
