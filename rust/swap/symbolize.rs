@@ -42,7 +42,7 @@ fn main() -> ExitCode {
     let path = match words.next() {
         Some(word) if word != "--help" => word,
         _ => {
-            eprint!("{USAGE}");
+            let _ = write!(io::stderr(), "{USAGE}");
             return ExitCode::from(2);
         }
     };
@@ -106,8 +106,9 @@ fn tell(program: &mut Program, word: &str, address: Address) -> Result<bool, Str
     Ok(answer.faults.is_empty())
 }
 
+/// Says what is wrong. If standard error cannot be written, the status still says that something is.
 fn complain(why: &str) {
-    eprintln!("symbolize: {}", printable(why));
+    let _ = writeln!(io::stderr(), "symbolize: {}", printable(why));
 }
 
 /// An address in the program as it runs.
