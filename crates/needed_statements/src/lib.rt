@@ -21,8 +21,12 @@ pub fn proved()
     ensures { λ r. ⌜
         ((f g : File) (len : ℕ) (stage : Stage) (offsets sizes : List ℕ) → Isolation f g len stage offsets sizes)
         ⌝ }
-    ensures { λ r. ⌜ ((f g : File) (len len′ : ℕ) → Holds f len → Holds g len′ → Prefix f g len len′) ⌝ }
+    ensures { λ r. ⌜
+        ((f g : File) (len len′ : ℕ) (long : Holds f len) (long′ : Holds g len′) → Prefix f g len len′)
+        ⌝ }
     ensures { λ r. ⌜ ((f : File) (len k : ℕ) → Covers f len k) ⌝ }
-    ensures { λ r. ⌜ ((f g : File) (len len′ : ℕ) → Holds f len → Holds g len′ → LaidOut f g len len′) ⌝ }
+    ensures { λ r. ⌜
+        ((f g : File) (len len′ : ℕ) (long : Holds f len) (long′ : Holds g len′) → LaidOut f g len len′)
+        ⌝ }
     ensures { λ r. ⌜ Cases ⌝ }
 {}
