@@ -55,6 +55,24 @@ pub extern "C" fn trovespan_map(
     container_crossing::map(file, stream, limited, limit, offsets, sizes, value, total)
 }
 
+// `value` is the number of bytes written. `limit` is used only if `limited`.
+#[no_mangle]
+pub extern "C" fn trovespan_extract(
+    file: &[u8],
+    stream: u32,
+    limited: bool,
+    limit: usize,
+    out: &mut [u8],
+    value: &mut u64,
+) -> u32
+    ensures { λ r. ⌜
+        Extracts (byteAt (now (file .entry))) (length (now (file .entry))) stream (limitOf limited limit)
+        (now (out .entry)) r (now (value .exit)) (now (out .exit))
+        ⌝ }
+{
+    container_crossing::extract(file, stream, limited, limit, out, value)
+}
+
 // Which parts of the file mapping reads: the location list's slices, or the directory's if `directory`. `value` is their
 // number, `total` that of their bytes.
 #[no_mangle]
@@ -73,24 +91,6 @@ pub extern "C" fn trovespan_needed_to_map(
         ⌝ }
 {
     container_crossing::needed_to_map(file, directory, offsets, sizes, value, total)
-}
-
-// `value` is the number of bytes written. `limit` is used only if `limited`.
-#[no_mangle]
-pub extern "C" fn trovespan_extract(
-    file: &[u8],
-    stream: u32,
-    limited: bool,
-    limit: usize,
-    out: &mut [u8],
-    value: &mut u64,
-) -> u32
-    ensures { λ r. ⌜
-        Extracts (byteAt (now (file .entry))) (length (now (file .entry))) stream (limitOf limited limit)
-        (now (out .entry)) r (now (value .exit)) (now (out .exit))
-        ⌝ }
-{
-    container_crossing::extract(file, stream, limited, limit, out, value)
 }
 
 // `value` is the number, `taken` how many bytes it took, `shortest` 1 if no form of it is shorter, else 0. `next` is
