@@ -184,12 +184,23 @@ fn image(parts: &[&Part<'_>]) -> Result<Vec<u8>> {
     Ok(image)
 }
 
-/// Zeros, of which the system keeps those pages only that are written later. `vec!` asks for them
-/// that way, but ends the process if they cannot be had, so that is tried first.
+/// Zeros, of which those alone take memory that are written to later: fresh memory of the system is
+/// zero. glibc may give an allocation of up to 32 MiB memory that was in use before, and fills that
+/// with zeros itself, so a larger one is asked for. Below 1 MiB that makes no difference.
+///
+/// `vec!` ends the process if there is not so much memory, so that is tried first.
 fn zeros(length: usize) -> Result<Vec<u8>> {
-    let tried = Vec::<u8>::new().try_reserve_exact(length);
+    const SMALL: usize = 1 << 20;
+    const ALWAYS_FRESH: usize = 33 << 20;
+    let room = match length {
+        0..=SMALL => length,
+        _ => length.max(ALWAYS_FRESH),
+    };
+    let tried = Vec::<u8>::new().try_reserve_exact(room);
     tried.map_err(|_| io::Error::from(io::ErrorKind::OutOfMemory))?;
-    Ok(vec![0; length])
+    let mut zeros = vec![0; room];
+    zeros.truncate(length);
+    Ok(zeros)
 }
 
 /// Where the library writes slices. Kept, and made larger when an answer has more of them.

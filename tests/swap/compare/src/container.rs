@@ -176,19 +176,23 @@ fn cut(file: &mut Vec<u8>, page: usize, random: &mut Random) {
     file.resize(file.len().max(SMALL_MAGIC.len()), 0); // damage that follows needs bytes to change
 }
 
-/// The parts of a file of this length with the streams of another, whose directory is at the end. The location list stays
-/// where it is.
+/// The parts of a file of this length with the streams of another, and with the directory and then the location list at the
+/// end.
 pub fn with_directory_at_end(file: &[u8], length: u64) -> Vec<(u64, Vec<u8>)> {
     let Places { page, location, directory, .. } = places(file);
-    let used = length / page as u64;
-    let first = used - location.len() as u64;
+    let used = (length / page as u64) as u32;
+    let of_location = pages_for(4 * location.len(), page) as u32;
+    let of_directory = location.len() as u32;
+    let at = |number: u32| u64::from(number) * page as u64;
+    let (list, first) = (used - of_location, used - of_location - of_directory);
     let mut front = file.to_vec();
-    put(&mut front, PAGES_USED, used as u32);
-    for (at, number) in location.iter().zip(first..) {
-        put(&mut front, *at, number as u32);
+    put(&mut front, PAGES_USED, used);
+    for (i, number) in (list..used).enumerate() {
+        put(&mut front, LOCATION_ENTRIES + 4 * i, number);
     }
-    let end = directory.iter().flat_map(|at| word(file, *at).to_le_bytes()).collect();
-    vec![(0, front), (first * page as u64, end)]
+    let words = directory.iter().flat_map(|at| word(file, *at).to_le_bytes()).collect();
+    let numbers = (first..list).flat_map(u32::to_le_bytes).collect();
+    vec![(0, front), (at(first), words), (at(list), numbers)]
 }
 
 /// The parts of a file of 2^54 bytes and a page: the header block, the location list, a stream of five bytes, and at the end

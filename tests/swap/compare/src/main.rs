@@ -63,11 +63,14 @@ fn run(words: &[&str]) -> Answer {
     }
 }
 
+/// A broken file may say that it has more streams.
+const MOST_STREAMS: u32 = 1 << 16;
+
 fn streams(paths: &[&str]) -> Answer {
     let mut tally = Tally::default();
     for path in paths {
         let file = fs::read(path)?;
-        let count = trovespan::stream_count(&file).unwrap_or(0);
+        let count = trovespan::stream_count(&file).unwrap_or(0).min(MOST_STREAMS);
         let page = trovespan::open(&file).map_or(4096, |opened| opened.page_size) as usize;
         let limits = [0, 1, page - 1, page, page + 1, 5000, 1 << 20, usize::MAX].map(Some);
         let streams = (0..count).chain([count, count + 1, u32::MAX]);
@@ -126,7 +129,7 @@ fn containers(mut random: Random, count: usize, paths: &[&str]) -> Answer {
         let made = random.one_in(2);
         let mut file = if made { container::make(&mut random) } else { files[random.below(files.len())].clone() };
         let streams = trovespan::stream_count(&file)? as usize;
-        // One in eight made containers is sound: nothing is judged before everything was read.
+        // One in eight of the made containers stays sound, so that all its streams are read.
         if !(made && random.one_in(8)) {
             let places = container::places(&file);
             container::damage(&mut file, &places, &mut random);
@@ -196,8 +199,8 @@ fn byte(random: &mut Random) -> u8 {
     let any = random.next() as u8;
     match random.below(4) {
         0 => any % 16,
-        1 => 0x80 | any % 0x40,
-        2 => 0xc0 | any % 0x40,
+        1 => 0x80 | (any % 0x40),
+        2 => 0xc0 | (any % 0x40),
         _ => any,
     }
 }
@@ -261,14 +264,18 @@ fn sparse(path: &str, length: u64, out: &str) -> Answer {
     Ok(ExitCode::SUCCESS)
 }
 
-/// Prints the number of bytes in all streams, and the most memory that was resident, in KiB.
+/// Opens a file three times, one after the other, and reads its streams. Prints the number of bytes in all of them, and the
+/// most memory that was resident, in KiB.
 fn memory(side: &str, path: &str, streams: u32) -> Answer {
-    let file = fs::File::open(path)?;
-    let bytes = match side {
-        "original" => original::read_all(file, streams)?,
-        "swapped" => swapped::read_all(file, streams)?,
+    let read_all = match side {
+        "original" => original::read_all,
+        "swapped" => swapped::read_all,
         _ => return Err("original or swapped".into()),
     };
+    let mut bytes = 0;
+    for _ in 0..3 {
+        bytes += read_all(fs::File::open(path)?, streams)?;
+    }
     let status = fs::read_to_string("/proc/self/status")?;
     let peak = status.lines().find_map(|line| line.strip_prefix("VmHWM:")).ok_or("no VmHWM")?;
     println!("bytes {bytes}\npeak {}", peak.trim().trim_end_matches(" kB"));
