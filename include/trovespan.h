@@ -103,6 +103,14 @@ uint32_t trovespan_map(const uint8_t *file, size_t file_len, uint32_t stream, bo
                        size_t offsets_len, uint64_t *sizes, size_t sizes_len, uint64_t *value, uint64_t *total);
 
 /*
+ * Copies a stream, or its first `limit` bytes if `limited`, to the front of `out`. `value` is the number of bytes copied.
+ *
+ * Refuses as trovespan_map does, with 6 also if a slice reaches past the end of the file, and with 10 if `out` is too short.
+ */
+uint32_t trovespan_extract(const uint8_t *file, size_t file_len, uint32_t stream, bool limited, size_t limit, uint8_t *out,
+                           size_t out_len, uint64_t *value);
+
+/*
  * Finds which parts of the file trovespan_map reads after the first TROVESPAN_HEADER_BLOCK bytes, and before it comes to the
  * stream: the slices of the directory if `directory`, else those of the location list, which has the directory's page
  * numbers. Writes where each slice begins to `offsets`, and its length to `sizes`. `value` is the number of slices, `total`
@@ -120,14 +128,6 @@ uint32_t trovespan_map(const uint8_t *file, size_t file_len, uint32_t stream, bo
 uint32_t trovespan_needed_to_map(const uint8_t *file, size_t file_len, bool directory, uint64_t *offsets,
                                  size_t offsets_len, uint64_t *sizes, size_t sizes_len, uint64_t *value,
                                  uint64_t *total);
-
-/*
- * Copies a stream, or its first `limit` bytes if `limited`, to the front of `out`. `value` is the number of bytes copied.
- *
- * Refuses as trovespan_map does, with 6 also if a slice reaches past the end of the file, and with 10 if `out` is too short.
- */
-uint32_t trovespan_extract(const uint8_t *file, size_t file_len, uint32_t stream, bool limited, size_t limit, uint8_t *out,
-                           size_t out_len, uint64_t *value);
 
 /*
  * Reads the compressed number at the place `at`. `value` is the number, `taken` how many bytes it takes: 1, 2 or 4.

@@ -34,6 +34,16 @@ mod c {
             value: *mut u64,
             total: *mut u64,
         ) -> u32;
+        pub fn trovespan_extract(
+            file: *const u8,
+            file_len: usize,
+            stream: u32,
+            limited: bool,
+            limit: usize,
+            out: *mut u8,
+            out_len: usize,
+            value: *mut u64,
+        ) -> u32;
         pub fn trovespan_needed_to_map(
             file: *const u8,
             file_len: usize,
@@ -44,16 +54,6 @@ mod c {
             sizes_len: usize,
             value: *mut u64,
             total: *mut u64,
-        ) -> u32;
-        pub fn trovespan_extract(
-            file: *const u8,
-            file_len: usize,
-            stream: u32,
-            limited: bool,
-            limit: usize,
-            out: *mut u8,
-            out_len: usize,
-            value: *mut u64,
         ) -> u32;
         pub fn trovespan_number(
             bytes: *const u8,
@@ -155,6 +155,25 @@ pub fn map(file: &[u8], stream: u32, limit: Option<usize>, offsets: &mut [u64], 
     (number, value, total)
 }
 
+pub fn extract(file: &[u8], stream: u32, limit: Option<usize>, out: &mut [u8]) -> (u32, u64) {
+    let mut value = 0;
+    // SAFETY: `file` and `out` are borrowed for the call, each with its own length, and `out` mutably, so they do not
+    // overlap; `value` is a local number.
+    let number = unsafe {
+        c::trovespan_extract(
+            file.as_ptr(),
+            file.len(),
+            stream,
+            limit.is_some(),
+            limit.unwrap_or(0),
+            out.as_mut_ptr(),
+            out.len(),
+            &mut value,
+        )
+    };
+    (number, value)
+}
+
 pub fn needed_to_map(file: &[u8], directory: bool, offsets: &mut [u64], sizes: &mut [u64]) -> (u32, u64, u64) {
     let (mut value, mut total) = (0, 0);
     // SAFETY: `file`, `offsets` and `sizes` are borrowed for the call, each with its own length, and the two stores
@@ -173,25 +192,6 @@ pub fn needed_to_map(file: &[u8], directory: bool, offsets: &mut [u64], sizes: &
         )
     };
     (number, value, total)
-}
-
-pub fn extract(file: &[u8], stream: u32, limit: Option<usize>, out: &mut [u8]) -> (u32, u64) {
-    let mut value = 0;
-    // SAFETY: `file` and `out` are borrowed for the call, each with its own length, and `out` mutably, so they do not
-    // overlap; `value` is a local number.
-    let number = unsafe {
-        c::trovespan_extract(
-            file.as_ptr(),
-            file.len(),
-            stream,
-            limit.is_some(),
-            limit.unwrap_or(0),
-            out.as_mut_ptr(),
-            out.len(),
-            &mut value,
-        )
-    };
-    (number, value)
 }
 
 pub fn number(bytes: &[u8], at: usize) -> (u32, u64, u64, u64, u64) {

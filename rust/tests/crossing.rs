@@ -49,6 +49,21 @@ unsafe extern "C" fn trovespan_map(
 }
 
 #[no_mangle]
+unsafe extern "C" fn trovespan_extract(
+    file: *const u8,
+    _: usize,
+    _: u32,
+    limited: bool,
+    limit: usize,
+    _: *mut u8,
+    _: usize,
+    value: *mut u64,
+) -> u32 {
+    *value = if limited { limit as u64 } else { VALUE };
+    u32::from(*file)
+}
+
+#[no_mangle]
 unsafe extern "C" fn trovespan_needed_to_map(
     file: *const u8,
     _: usize,
@@ -61,21 +76,6 @@ unsafe extern "C" fn trovespan_needed_to_map(
     total: *mut u64,
 ) -> u32 {
     (*value, *total) = if directory { (VALUE, OTHER) } else { (OTHER, VALUE) };
-    u32::from(*file)
-}
-
-#[no_mangle]
-unsafe extern "C" fn trovespan_extract(
-    file: *const u8,
-    _: usize,
-    _: u32,
-    limited: bool,
-    limit: usize,
-    _: *mut u8,
-    _: usize,
-    value: *mut u64,
-) -> u32 {
-    *value = if limited { limit as u64 } else { VALUE };
     u32::from(*file)
 }
 
@@ -185,6 +185,15 @@ fn mapping() {
 }
 
 #[test]
+fn extracting() {
+    assert_eq!(extract(&[0], 0, None, &mut []), Ok(VALUE as usize));
+    for limit in [0, 1 << 16, 1 << 32, OTHER, u64::MAX] {
+        assert_eq!(extract(&[0], 0, Some(limit as usize), &mut []), Ok(limit as usize));
+    }
+    assert_eq!(extract(&[10], 0, None, &mut []), Err(refusal(10)));
+}
+
+#[test]
 fn what_mapping_needs() {
     for (stage, value, total) in [(Stage::Directory, VALUE, OTHER), (Stage::LocationList, OTHER, VALUE)] {
         let needed = |number| needed_to_map(&[number], stage, &mut [], &mut []);
@@ -194,15 +203,6 @@ fn what_mapping_needs() {
             assert_eq!(needed(number), Err(Refusal { number: number.into(), value }));
         }
     }
-}
-
-#[test]
-fn extracting() {
-    assert_eq!(extract(&[0], 0, None, &mut []), Ok(VALUE as usize));
-    for limit in [0, 1 << 16, 1 << 32, OTHER, u64::MAX] {
-        assert_eq!(extract(&[0], 0, Some(limit as usize), &mut []), Ok(limit as usize));
-    }
-    assert_eq!(extract(&[10], 0, None, &mut []), Err(refusal(10)));
 }
 
 #[test]

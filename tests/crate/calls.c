@@ -321,8 +321,8 @@ int main(void) {
     make_f();
     open_and_count();
     map();
-    needed_to_map();
     extract();
+    needed_to_map();
     numbers();
     annotations();
     long_forms();
