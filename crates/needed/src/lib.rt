@@ -26,12 +26,7 @@ pub enum Stage {
 }
 
 // The slices of a stage's part. Steps 1 to 3 for the location list, 1 to 4 for the directory, then 10.
-pub fn needed_to_map(
-    file: &[u8],
-    stage: Stage,
-    offsets: &mut [u64],
-    sizes: &mut [u64],
-) -> Mapping
+pub fn needed_to_map(file: &[u8], stage: Stage, offsets: &mut [u64], sizes: &mut [u64]) -> Mapping
     ensures { λ r. ⌜
         Needs (byteAt (now (file .entry))) (length (now (file .entry))) stage
         (now (offsets .entry)) (now (sizes .entry)) r (now (offsets .exit)) (now (sizes .exit))

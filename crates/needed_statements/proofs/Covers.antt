@@ -39,7 +39,7 @@ word-named f len stage {h} e w i l m =
     let d : ℕ = i - through (h .pagesize) page (4 * w) in
     let small : d < 4 = omega (arith, m .0, m .1) in
     let here : through (h .pagesize) page (4 * w + d) ≡ i =
-        word-byte (h .pagesize) page (placed-size f len stage e) w d small ∙ omega (arith, m .0) in
+    word-byte (h .pagesize) page (placed-size f len stage e) w d small ∙ omega (arith, m .0) in
     rw here at (part-named f len stage e (4 * w + d) (omega arith))
 
 stage-read : (f : File) (len i : ℕ) → isolation.Stage f len i → Read f len i
