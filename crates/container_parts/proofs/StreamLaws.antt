@@ -1,6 +1,6 @@
 -- A stream copied a run at a time: what stands in the store after i bytes, and that all of them fill its pages.
 use mathlib.Core.Path.{_≡_, sym, _∙_, ap}
-use mathlib.Core.Logic.{⊎-elim, _⊎_}
+use mathlib.Core.Logic.{⊎-elim}
 use mathlib.Core.List.{List}
 use Prim.Native.Nat.{ℕ, _+_, _-_, _*_, _/_, _%_, _^_, min, _≤_, _<_}
 use native.Mathlib.Omega.{arith}

@@ -1,6 +1,6 @@
 -- The limit, the ways out of step 8 and of the check that the bytes lie in the file; what an accepted extent is known to be.
 use mathlib.Core.Path.{_≡_, refl, sym, _∙_, ap}
-use Prim.Native.Nat.{ℕ, _+_, _^_, min, _≤_, _<_}
+use Prim.Native.Nat.{ℕ, _^_, min, _≤_, _<_}
 use native.Mathlib.Omega.{arith}
 use Rattle.outcome.specs.Outcome.{Outcome, ok, refused, _>>=_, _>>_}
 use Rattle.outcome.specs.Refusal as paper

@@ -8,7 +8,7 @@ use mathlib.Core.Logic.{⊎-elim}
 use Prim.Native.Nat.{ℕ, _*_, _/_, min, _<_}
 use native.Mathlib.Omega.{arith}
 use borrow.Author.Tests.{leb-true, le-leb}
-use Rattle.outcome.specs.Outcome.{ok, _>>=_, _>>_, require}
+use Rattle.outcome.specs.Outcome.{ok, require}
 use Rattle.outcome.proofs.OutcomeLaws.{below-or, passed, bind-same, then-same}
 use Rattle.outcome.proofs.EachLaws.{each-same}
 use Rattle.parse_buffer.specs.Bytes.{File}

@@ -9,7 +9,7 @@ use lib.ListN.{length}
 use Rattle.outcome.specs.Outcome.{Outcome, ok, refused, _>>=_, _>>_, require}
 use Rattle.outcome.specs.Refusal as paper
 use Rattle.parse_buffer.specs.Bytes.{File}
-use Rattle.paged.specs.PageSize.{PageSize, need}
+use Rattle.paged.specs.PageSize.{need}
 use Rattle.paged.proofs.SizeLaws.{need-le}
 use Rattle.paged.specs.Refusal.{refusalIn}
 use Rattle.paged.specs.declared.refusal.Refusal.{Refusal}
@@ -25,7 +25,7 @@ use Rattle.header.specs.declared.Headed.the-variants.{Container, Refused}
 use Rattle.directory.specs.Directory.{listed}
 use Rattle.directory.specs.Inner.{Listing}
 use Rattle.directory.proofs.DirectoryLaws.{listed-at}
-use Rattle.extent.specs.Inner.{measuredIn, Sound}
+use Rattle.extent.specs.Inner.{measuredIn}
 use Rattle.extent.proofs.ExtentLaws.{none-sound, one-sound}
 use Rattle.extent.specs.declared.Extent.{Extent}
 use Rattle.extent.specs.declared.Measured.{Measured}

@@ -1,8 +1,7 @@
 -- What the part of a stage promises its callers.
 use mathlib.Core.Path.{_≡_}
 use Prim.Native.Nat.{ℕ}
-use Rattle.outcome.specs.Outcome.{Outcome, ok, _>>=_}
-use Rattle.outcome.specs.Refusal as paper
+use Rattle.outcome.specs.Outcome.{ok, _>>=_}
 use Rattle.parse_buffer.specs.Bytes.{File}
 use Rattle.paged.specs.PageSize.{need}
 use Rattle.header.specs.declared.Header.{Header}

@@ -1,7 +1,7 @@
 -- What mapping reads is a byte of the header block, of an entry of the location list, or of a word of the directory
 -- (`Stage` of crate isolation). A word does not cross a page, so each of its bytes is one of the part's, which its slices
 -- name.
-use mathlib.Core.Path.{_≡_, sym, _∙_}
+use mathlib.Core.Path.{_≡_, _∙_}
 use Prim.Native.Nat.{ℕ, _+_, _-_, _*_, _/_, _%_, _≤_, _<_}
 use native.Mathlib.Omega.{arith}
 use native.Mathlib.Nat.{div-add-mod'}
@@ -11,14 +11,12 @@ use Rattle.paged.specs.PageSize.{PageSize}
 use Rattle.paged.specs.Pages.{through, pageOf}
 use Rattle.paged.proofs.SizeLaws.{word-in-page}
 use Rattle.header.specs.declared.Header.{Header}
-use Rattle.header.specs.Header.{directoryPages, words}
 use Rattle.directory.proofs.DirectoryLaws.{reached-at}
 use Rattle.container_layout.proofs.PlaceLaws.{divides}
 use Rattle.needed.specs.Needed.{placed, pagesAt, bytesAt, slicesAt}
 use Rattle.needed.specs.declared.Stage.{Stage}
 use Rattle.needed.specs.declared.Stage.the-variants.{LocationList, Directory}
-use Rattle.isolation.specs.Listed.{InWord, Named, ListedCount, ListedMap, Agree}
-use Rattle.isolation.specs.Boundary.{counts, maps}
+use Rattle.isolation.specs.Listed.{InWord, Named, ListedMap}
 use Rattle.isolation.proofs.Stages as isolation
 use Rattle.needed_statements.specs.Prefix.{Holds, Read, Covers, LaidOut}
 use Rattle.needed_statements.proofs.Parts.{placed-size, part-named}

@@ -5,9 +5,9 @@ use mathlib.Core.List.{List, map}
 use Prim.Native.Nat.{ℕ, min, _<_}
 use native.Mathlib.Omega.{arith}
 use lib.ListN.{length}
-use Rattle.outcome.specs.Outcome.{ok, _>>=_, _>>_, require}
+use Rattle.outcome.specs.Outcome.{ok}
 use Rattle.outcome.specs.Store.{written}
-use Rattle.outcome.proofs.OutcomeLaws.{came, came-by, ok-is, bind-same, written-same}
+use Rattle.outcome.proofs.OutcomeLaws.{came, came-by, bind-same, written-same}
 use Rattle.parse_buffer.specs.Bytes.{File}
 use Rattle.paged.specs.PageSize.{need}
 use Rattle.paged.specs.Pages.{pageOf}

@@ -1,8 +1,7 @@
 -- A stage's part is a paged object whose page size passed, so what holds of the slices of any such pages holds of its own:
 -- laid end to end they are its bytes (`EndToEndLaws`), and they name these (`NamedExactly`).
 use mathlib.Core.Path.{_≡_, sym, _∙_}
-use mathlib.Core.Bool.{true}
-use Prim.Native.Nat.{ℕ, _+_, _-_, _*_, _/_, _%_, _≤_, _<_}
+use Prim.Native.Nat.{ℕ, _+_, _-_, _*_, _≤_, _<_}
 use native.Mathlib.Omega.{arith}
 use native.Mathlib.Nat.{zero-add}
 use lib.Dec.{leb}

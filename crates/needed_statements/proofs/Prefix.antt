@@ -4,7 +4,6 @@ use mathlib.Core.Path.{_≡_, sym, _∙_}
 use mathlib.Core.List.{List}
 use Prim.Native.Nat.{ℕ, min}
 use lib.ListN.{length}
-use Rattle.outcome.specs.Outcome.{ok}
 use Rattle.parse_buffer.specs.Bytes.{File}
 use Rattle.extent.specs.declared.limit.Limit.{Limit}
 use Rattle.header.specs.Promises.{Opening}
@@ -21,7 +20,7 @@ use Rattle.needed.specs.Needed.{needing}
 use Rattle.needed.specs.Promises.{Needs}
 use Rattle.needed.specs.declared.Stage.{Stage}
 use Rattle.needed.specs.declared.Stage.the-variants.{LocationList, Directory}
-use Rattle.isolation.specs.Listed.{ListedOpen, ListedCount, ListedMap, Agree}
+use Rattle.isolation.specs.Listed.{ListedCount, ListedMap, Agree}
 use Rattle.isolation.specs.Boundary.{counts, maps}
 use Rattle.isolation.proofs.Isolation.{isolation}
 use Rattle.isolation.proofs.Boundary.{boundary}

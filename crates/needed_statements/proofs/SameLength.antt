@@ -3,7 +3,7 @@
 use mathlib.Core.Path.{_≡_, refl, sym, _∙_}
 use Prim.Native.Nat.{ℕ, _≤_}
 use borrow.Author.Tests.{le-leb}
-use Rattle.outcome.specs.Outcome.{ok, _>>=_, _>>_, require}
+use Rattle.outcome.specs.Outcome.{ok}
 use Rattle.outcome.proofs.OutcomeLaws.{bind-same, then-same}
 use Rattle.parse_buffer.specs.Bytes.{File}
 use Rattle.header.specs.Header.{headerBlock, headed, located, opening}

@@ -4,7 +4,7 @@ use mathlib.Core.Path.{_≡_}
 use mathlib.Core.Logic.{_↔_}
 use mathlib.Core.List.{List}
 use Prim.Native.Nat.{ℕ, _<_}
-use Rattle.outcome.specs.Outcome.{Outcome, ok, refused, _>>=_, _>>_}
+use Rattle.outcome.specs.Outcome.{Outcome, ok, refused, _>>_}
 use Rattle.outcome.specs.Refusal as paper
 use Rattle.outcome.specs.Only.{Only, Only₃}
 use Rattle.parse_buffer.specs.Bytes.{File}
