@@ -1,5 +1,5 @@
-// The data pages of one part of a container (a stream, the directory or the location list), with the map pages that lie before them. A part begins a page, and what it leaves of its
-// last page is zeros.
+// The data pages of one part of a container (a stream, the directory or the location list), with the map pages that
+// lie before them. A part begins a page, and what it leaves of its last page is zeros.
 use container_layout::Layout;
 use container_layout::pages_to_map;
 use container_pages::Numbers;

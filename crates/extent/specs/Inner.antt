@@ -18,8 +18,8 @@ use Rattle.extent.specs.declared.Extent.{Extent}
 use Rattle.extent.specs.declared.Measured.{Measured}
 use Rattle.extent.specs.declared.Measured.the-variants as measured
 
--- ---- what holds of an extent: its page size passes, it has as many pages as its bytes take, and their entries are among
--- the first 2^32 of their list (so there are no more than that; it stands here for those who only need this)
+-- ---- what holds of an extent: its page size passes, it has as many pages as its bytes take, and their entries are
+-- among the first 2^32 of their list (so there are no more than that; it stands here for those who only need this)
 pub record Extends (x : Extent) : Type 0 where
   pub size : PageSize (x .pagesize)
   pub whole : x .pages ≡ need (x .pagesize) (x .bytes)

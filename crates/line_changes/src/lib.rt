@@ -1,5 +1,5 @@
-// The changes of a line program's state that annotations are made of (docs/LINES.md). A record is handed out when the next
-// one is emitted: until then its length may be set.
+// The changes of a line program's state that annotations are made of (docs/LINES.md). A record is handed out when the
+// next one is emitted: until then its length may be set.
 use annotations::long;
 use line_state::Length;
 use line_state::Line;

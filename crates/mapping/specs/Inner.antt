@@ -56,7 +56,8 @@ mappedOf f o = do
 abbrev pub eachSlice : (SourceSlice → ℕ) → File → Extent → List ℕ
 eachSlice part f x = map part (slicesThrough f x)
 
-pub record Puts (f : File) (judged : Measured) (offsets sizes : List ℕ) (r : Mapping) (offsets′ sizes′ : List ℕ) : Type 0 where
+pub record Puts (f : File) (judged : Measured) (offsets sizes : List ℕ) (r : Mapping)
+    (offsets′ sizes′ : List ℕ) : Type 0 where
   pub answer : mappedIn r ≡ mappedOf f (measuredIn judged)
   pub offsets-after : offsets′ ≡ written (measuredIn judged) (eachSlice (λ (s : SourceSlice). s .offset) f) offsets
   pub sizes-after : sizes′ ≡ written (measuredIn judged) (eachSlice (λ (s : SourceSlice). s .size) f) sizes

@@ -1,5 +1,5 @@
--- The parts of the file that mapping reads before it comes to the stream: the location list (document 01, step 4) and the
--- directory (step 5). Each is a paged object, and its slices are made by the rule for a stream's.
+-- The parts of the file that mapping reads before it comes to the stream: the location list (document 01, step 4) and
+-- the directory (step 5). Each is a paged object, and its slices are made by the rule for a stream's.
 use Prim.Native.Nat.{ℕ, _*_}
 use mathlib.Core.List.{List}
 use lib.Dec.{leb}

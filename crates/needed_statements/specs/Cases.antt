@@ -25,8 +25,8 @@ refusal number value = refused (record { number = number; value = value })
 pub record Cases : Type 0 where
   pub location-list : neededOf F 6144 1 LocationList ≡ ok (record { slices = at 768 4 ∷ []; size = 4 })
   pub directory : neededOf F 6144 1 Directory ≡ ok (record { slices = at 1024 36 ∷ []; size = 36 })
-  -- cut off after the header block, which reaches to page 16, F answers the same: no part needs to be in the file before
-  -- it is asked for
+  -- cut off after the header block, which reaches to page 16, F answers the same: no part needs to be in the file
+  -- before it is asked for
   pub cut-off : neededOf F 4096 1 Directory ≡ ok (record { slices = at 1024 36 ∷ []; size = 36 })
   pub far : neededOf (changed F 768 20) 4096 1 Directory ≡ ok (record { slices = at 5120 36 ∷ []; size = 36 })
   pub no-room : neededOf F 6144 0 Directory ≡ refusal 10 1

@@ -1,5 +1,5 @@
--- Whoever has read the header block and the parts has read all that mapping reads, and need not have the file's length. Two
--- files of any lengths that agree there, and are long enough to hold it, are mapped alike.
+-- Whoever has read the header block and the parts has read all that mapping reads, and need not have the file's
+-- length. Two files of any lengths that agree there, and are long enough to hold it, are mapped alike.
 use mathlib.Core.List.{List}
 use mathlib.Core.Path.{_≡_}
 use Prim.Native.Nat.{ℕ, _≤_, _<_}
@@ -24,7 +24,8 @@ use Rattle.needed_statements.specs.Isolation.{ListedStage, needs}
 -- a length that holds the header block, the location list and the directory, each if its stage is reached
 pub record Holds (f : File) (len : ℕ) : Type 0 where
   pub block : headerBlock ≤ len
-  pub parts : (stage : Stage) {h : Header} → placed f len stage ≡ ok h → (i : ℕ) → Named (slicesAt f stage h) i → i < len
+  pub parts : (stage : Stage) {h : Header} → placed f len stage ≡ ok h →
+      (i : ℕ) → Named (slicesAt f stage h) i → i < len
 
 -- the lengths are not told apart: the operations, and the functions that Rust and C call
 pub record Prefix (f g : File) (len len′ : ℕ) : Type 0 where

@@ -1,5 +1,5 @@
--- What holds of `needed_to_map` beyond its promise: no second answer; which places the slices name; how its refusals stand
--- to those of the stream count and of mapping. proofs/ has a proof of each record.
+-- What holds of `needed_to_map` beyond its promise: no second answer; which places the slices name; how its refusals
+-- stand to those of the stream count and of mapping. proofs/ has a proof of each record.
 use mathlib.Core.Path.{_≡_}
 use mathlib.Core.Logic.{_↔_}
 use mathlib.Core.List.{List}

@@ -73,8 +73,8 @@ pub extern "C" fn trovespan_extract(
     container_crossing::extract(file, stream, limited, limit, out, value)
 }
 
-// Which parts of the file mapping reads: the location list's slices, or the directory's if `directory`. `value` is their
-// number, `total` that of their bytes.
+// Which parts of the file mapping reads: the location list's slices, or the directory's if `directory`. `value` is
+// their number, `total` that of their bytes.
 #[no_mangle]
 pub extern "C" fn trovespan_needed_to_map(
     file: &[u8],
