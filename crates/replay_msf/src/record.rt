@@ -63,7 +63,7 @@ pub fn read() -> Reading {
 
 // Each byte that says yes or no is 0 or 1, that of a place is one of its three, and those that say nothing are 0.
 fn well_formed(h: &[u8; 48]) -> bool {
-    h[4] < 2 && h[5] < 32 && h[6] < 2 && h[7] < 2 && h[22] < 3 && h[23] == 0
+    h[4] < 2 && h[5] < 128 && h[6] < 2 && h[7] < 2 && h[22] < 3 && h[23] == 0
 }
 
 // A list of ours keeps to the limits, so one that does not is damaged.
@@ -111,6 +111,8 @@ fn parse_question(h: &[u8; 48]) -> Question {
         map: asked / 4 % 2 == 1,
         extract: asked / 8 % 2 == 1,
         list: asked / 16 % 2 == 1,
+        location_list: asked / 32 % 2 == 1,
+        directory: asked / 64 % 2 == 1,
         stream,
         limit: parse_limit(h),
         offsets: half(h[18], h[19]),
