@@ -14,11 +14,20 @@ const MAPPED: u64 = 15;
 const MAP_REFUSED: u64 = 16;
 const EXTRACTED: u64 = 17;
 const EXTRACT_REFUSED: u64 = 18;
+const NEEDED: u64 = 61;
+const NEED_REFUSED: u64 = 62;
 
 /// A refusal's number and value.
 pub type Refusal = (u64, u64);
 
 pub type Answer = Vec<Word>;
+
+/// A stage of what mapping reads before it comes to the stream.
+#[derive(Clone, Copy, Debug, Eq, PartialEq)]
+pub enum Stage {
+    LocationList,
+    Directory,
+}
 
 /// A library that is asked: pdb, in two ways, or ours.
 pub trait Library {
@@ -44,6 +53,15 @@ pub trait Library {
         limit: Option<usize>,
         out: &mut [u8],
     ) -> Option<Result<usize, Refusal>>;
+
+    /// The slices of the part that mapping reads at a stage, into two stores: their number, and their
+    /// length.
+    fn need(
+        file: &[u8],
+        stage: Stage,
+        offsets: &mut [u64],
+        sizes: &mut [u64],
+    ) -> Result<(usize, usize), Refusal>;
 
     /// The listing, which our crate does not have.
     fn listing(_: &[u8]) -> Option<Listing> {
@@ -72,14 +90,34 @@ pub fn map<L: Library>(
     limit: Option<u64>,
     rooms: (usize, usize),
 ) -> Option<Answer> {
-    let mut offsets: Vec<u64> = (0..rooms.0).map(untouched_offset).collect();
-    let mut sizes: Vec<u64> = (0..rooms.1).map(untouched_size).collect();
-    let mut answer = match L::map(file, stream, bytes(limit), &mut offsets, &mut sizes)? {
-        Ok((slices, length)) => vec![Plain(MAPPED), Plain(slices as u64), Plain(length as u64)],
-        Err(refusal) => refused(MAP_REFUSED, refusal),
+    let (mut offsets, mut sizes) = entries(rooms);
+    let mapped = L::map(file, stream, bytes(limit), &mut offsets, &mut sizes)?;
+    let cases = (MAPPED, MAP_REFUSED);
+    Some(stored(cases, mapped, offsets, sizes))
+}
+
+/// The part of a stage into stores of these rooms; then both stores.
+pub fn need<L: Library>(file: &[u8], stage: Stage, rooms: (usize, usize)) -> Answer {
+    let (mut offsets, mut sizes) = entries(rooms);
+    let needed = L::need(file, stage, &mut offsets, &mut sizes);
+    stored((NEEDED, NEED_REFUSED), needed, offsets, sizes)
+}
+
+/// The number of slices and their length, or the refusal, by its case; then both stores.
+fn stored(
+    (accepted, case): (u64, u64),
+    result: Result<(usize, usize), Refusal>,
+    offsets: Vec<u64>,
+    sizes: Vec<u64>,
+) -> Answer {
+    let mut answer = match result {
+        Ok((slices, length)) => {
+            vec![Plain(accepted), Plain(slices as u64), Plain(length as u64)]
+        }
+        Err(refusal) => refused(case, refusal),
     };
     answer.extend(offsets.into_iter().chain(sizes).map(Plain));
-    Some(answer)
+    answer
 }
 
 /// Extracts the stream into a store of `room` bytes; then the store.
@@ -98,13 +136,13 @@ pub fn extract<L: Library>(
     Some(answer)
 }
 
-/// Entry i of each store before it is lent.
-fn untouched_offset(i: usize) -> u64 {
-    7_000_000_000_000_000_000 + i as u64
-}
-
-fn untouched_size(i: usize) -> u64 {
-    8_000_000_000_000_000_000 + i as u64
+/// The stores of these rooms for offsets and for sizes before they are lent.
+fn entries(rooms: (usize, usize)) -> (Vec<u64>, Vec<u64>) {
+    let from = |first: u64, room: usize| (first..first + room as u64).collect();
+    (
+        from(7_000_000_000_000_000_000, rooms.0),
+        from(8_000_000_000_000_000_000, rooms.1),
+    )
 }
 
 /// The bytes of a store before it is lent.

@@ -1,10 +1,13 @@
 //! Questions about one base file.
 
-use super::answers::{bytes, Library};
+use super::answers::{bytes, Library, Stage};
 use super::lent::Lent;
 use super::list::{Record, MOST_BYTES, MOST_ENTRIES};
-use super::pdb::{slices, Wanted};
-use super::question::{Question, Rooms, Run, Start, Sweep, COUNT, EXTRACT, LIST, MAP, OPEN};
+use super::pdb::{needed, slices, Wanted};
+use super::question::{
+    Question, Rooms, Run, Start, Sweep, COUNT, DIRECTORY, EXTRACT, LIST, LOCATION_LIST, MAP, OPEN,
+    STAGES,
+};
 
 /// Stores that hold the answers of small streams.
 const SMALL_ROOMS: Rooms = Rooms {
@@ -33,7 +36,7 @@ impl About {
             length: self.base.len(),
             edits: Vec::new(),
             sweep: None,
-            operations: OPEN | COUNT | MAP | EXTRACT,
+            operations: OPEN | COUNT | MAP | EXTRACT | STAGES,
             stream: 0,
             limit: None,
             rooms: SMALL_ROOMS,
@@ -59,7 +62,7 @@ impl About {
         self.records.push(Record::Question(question));
     }
 
-    /// The question for each of these streams. Only the first opens and counts.
+    /// The question for each of these streams. Only the first asks for what does not depend on the stream.
     pub fn ask_streams(&mut self, question: Question, streams: &[u32]) {
         for (i, &stream) in streams.iter().enumerate() {
             let operations = if i == 0 {
@@ -88,12 +91,41 @@ impl About {
     /// The question with stores that are exactly enough, larger, one short and empty, and with one
     /// store shorter than the other.
     pub fn ask_rooms(&mut self, question: Question) {
-        for rooms in self.rooms_around(&question) {
+        for rooms in rooms_around(self.needed(&question)) {
             self.ask(Question {
                 rooms,
                 ..question.clone()
             });
         }
+    }
+
+    /// Each stage of what mapping reads, with stores around what its part needs.
+    pub fn ask_stages(&mut self, question: Question) {
+        let stages = [
+            (Stage::LocationList, LOCATION_LIST),
+            (Stage::Directory, DIRECTORY),
+        ];
+        for &(stage, operations) in &stages {
+            let needed = self.needed_at(&question, stage).map(|slices| (slices, 0));
+            for rooms in rooms_around(needed) {
+                self.ask(Question {
+                    operations,
+                    rooms,
+                    ..question.clone()
+                });
+            }
+        }
+    }
+
+    /// Both stages, with stores that are one entry larger than the larger part needs.
+    pub fn ask_stages_with_room(&mut self, question: Question) {
+        let needed = |stage| self.needed_at(&question, stage).unwrap_or(0);
+        let slices = needed(Stage::LocationList).max(needed(Stage::Directory));
+        self.ask(Question {
+            operations: STAGES,
+            rooms: rooms(slices + 1, slices + 1, 0),
+            ..question
+        });
     }
 
     /// The question with stores that are one entry larger than it needs.
@@ -103,20 +135,6 @@ impl About {
             None => rooms(1, 1, 1),
         };
         self.ask(Question { rooms, ..question });
-    }
-
-    fn rooms_around(&self, question: &Question) -> Vec<Rooms> {
-        match self.needed(question) {
-            Some((slices, bytes)) => vec![
-                rooms(slices, slices, bytes),
-                rooms(slices.saturating_sub(1), slices, bytes.saturating_sub(1)),
-                rooms(slices, slices.saturating_sub(1), bytes + 1),
-                rooms(slices + 1, slices, bytes + 9),
-                rooms(slices, slices + 2, bytes),
-                rooms(0, 0, 0),
-            ],
-            None => vec![rooms(0, 0, 0), rooms(2, 1, 5)],
-        }
     }
 
     /// The listing alone, from a place on, in a room.
@@ -150,6 +168,27 @@ impl About {
         let slices = slices(Lent::lowered(&file), question.stream, limit)?.ok()?;
         let bytes = slices.iter().map(|slice| slice.size).sum();
         Some((slices.len(), bytes))
+    }
+
+    /// The number of slices of a stage's part, if it is accepted.
+    pub fn needed_at(&self, question: &Question, stage: Stage) -> Option<usize> {
+        let file = question.files(&self.base).pop()?;
+        Some(needed(Lent::lowered(&file), stage).ok()?.len())
+    }
+}
+
+/// Rooms around what is needed of entries and of bytes, or some, where it is refused.
+fn rooms_around(needed: Option<(usize, usize)>) -> Vec<Rooms> {
+    match needed {
+        Some((slices, bytes)) => vec![
+            rooms(slices, slices, bytes),
+            rooms(slices.saturating_sub(1), slices, bytes.saturating_sub(1)),
+            rooms(slices, slices.saturating_sub(1), bytes + 1),
+            rooms(slices + 1, slices, bytes + 9),
+            rooms(slices, slices + 2, bytes),
+            rooms(0, 0, 0),
+        ],
+        None => vec![rooms(0, 0, 0), rooms(2, 1, 5)],
     }
 }
 

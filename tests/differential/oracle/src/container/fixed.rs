@@ -3,13 +3,13 @@
 
 use super::ask::About;
 use super::list::Record;
-use super::{file_f, listings, live, rules, shapes};
+use super::{file_f, listings, live, rules, shapes, stages};
 use crate::random::Random;
 
 const FIXED_SEED: u64 = 0x6d73_6600;
 const FIXED_CONTAINERS: u64 = 120;
 
-const SUBJECTS: [fn(&mut Random) -> About; 27] = [
+const SUBJECTS: [fn(&mut Random) -> About; 31] = [
     rules::rows,
     file_f::whole,
     file_f::swept,
@@ -37,6 +37,10 @@ const SUBJECTS: [fn(&mut Random) -> About; 27] = [
     listings::too_many_streams,
     listings::long_lines,
     listings::hostile,
+    stages::of_f,
+    stages::runs,
+    stages::apart,
+    stages::missing,
 ];
 
 pub fn fixed() -> impl Iterator<Item = Record> {

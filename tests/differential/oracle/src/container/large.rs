@@ -2,9 +2,11 @@
 //! through the crate alone, since a list has no room for them.
 
 use super::ask::About;
-use super::files::{stream, word, Container, ABSENT, ENTRIES, PAGES_USED, PAGE_SIZE};
+use super::files::{
+    stream, word, Container, ABSENT, DIRECTORY_SIZE, ENTRIES, ENTRIES_HELD, PAGES_USED, PAGE_SIZE,
+};
 use super::list::Record;
-use super::question::{Question, Rooms, Run, EXTRACT, MAP};
+use super::question::{Question, Rooms, Run, DIRECTORY, EXTRACT, LOCATION_LIST, MAP, STAGES};
 use crate::random::Random;
 
 const SEED: u64 = 0x6d73_6601;
@@ -17,8 +19,14 @@ const LARGEST_PAGE: usize = 0x80_0000;
 /// The page of that size that begins at 4 GiB.
 const FAR: u32 = (BITS_33 / LARGEST_PAGE) as u32;
 
-const SUBJECTS: [fn(&mut Random) -> About; 4] =
-    [far_file, far_pages, many_slices, values_of_32_bits];
+const SUBJECTS: [fn(&mut Random) -> About; 6] = [
+    far_file,
+    far_pages,
+    many_slices,
+    many_parts,
+    long_parts,
+    values_of_32_bits,
+];
 
 pub fn large() -> impl Iterator<Item = Record> {
     let mut random = Random::new(SEED);
@@ -140,6 +148,80 @@ fn many_slices(random: &mut Random) -> About {
             },
             ..about.question()
         });
+    }
+    about
+}
+
+/// A directory that names one page over and over, in a file of 24 KiB: over 65,536 slices, and as many as the
+/// location entries can name, which is over 2^20. So does its location list, of up to 1,011 slices.
+fn many_parts(random: &mut Random) -> About {
+    const PAGE: usize = 0x1000;
+    const MOST: usize = ENTRIES_HELD * PAGE / 4;
+    let container = Container {
+        page_size: PAGE,
+        used: 6,
+        length: 6 * PAGE,
+        entries: vec![2; ENTRIES_HELD],
+        location: vec![3; PAGE / 4],
+        streams: Vec::new(),
+    };
+    let mut about = About::new(container.file(random));
+    for &pages in &[BITS_17 - 1, BITS_17, BITS_17 + 5, MOST] {
+        let size = (pages * PAGE - 7) as u32;
+        let entries = (pages * 4 + PAGE - 1) / PAGE;
+        for &(operations, slices) in &[(LOCATION_LIST, entries), (DIRECTORY, pages)] {
+            for &(offsets, sizes) in &[
+                (slices, slices),
+                (slices + 1, slices),
+                (slices - 1, slices),
+                (slices, slices - 1),
+                (0, 0),
+            ] {
+                about.ask(Question {
+                    operations,
+                    rooms: Rooms {
+                        offsets,
+                        sizes,
+                        bytes: 0,
+                    },
+                    ..about.edited(&[word(DIRECTORY_SIZE, size)])
+                });
+            }
+        }
+    }
+    about
+}
+
+/// A directory of almost 4 GiB in pages of 8 MiB, most of it past the file: one slice, whose pages come to 2^32
+/// bytes before the last is cut; and two and four, where pages are out of order.
+fn long_parts(random: &mut Random) -> About {
+    const PAGES: usize = BITS_33 / LARGEST_PAGE;
+    let container = Container {
+        page_size: LARGEST_PAGE,
+        used: 0xffff_ffff,
+        length: 4096,
+        entries: vec![1],
+        location: (2..2 + PAGES as u32).collect(),
+        streams: Vec::new(),
+    };
+    let mut about = About::new(container.file(random));
+    let laid_out = laid_out(&container);
+    let page = |i| container.location_word(i);
+    let changes = [
+        Vec::new(),
+        vec![word(page(PAGES - 1), 0xffff_fffe)],
+        vec![word(page(0), FAR)],
+        vec![word(page(PAGES / 2), FAR), word(page(PAGES - 1), FAR)],
+    ];
+    for change in &changes {
+        for &size in &[0xffff_ffff, 0xff80_0001, 0xff80_0000, 0x8000_0001] {
+            let size = vec![word(DIRECTORY_SIZE, size)];
+            about.ask(Question {
+                length: 2 * LARGEST_PAGE,
+                operations: STAGES,
+                ..about.edited(&[laid_out[..1].to_vec(), change.clone(), size].concat())
+            });
+        }
     }
     about
 }

@@ -1,14 +1,20 @@
 //! Random containers, sound and damaged, and questions about them.
 
+use super::answers::Stage;
 use super::ask::{rooms, About};
 use super::damage;
 use super::files::{need, stream, Container, Stream, ABSENT, HEADER_BLOCK};
 use super::list::{Record, LONGEST_FILE};
-use super::question::{Question, Start};
+use super::question::{Question, Rooms, Start, STAGES};
+use super::stages;
 use crate::random::Random;
 
 /// Half of them are about the container, half about damaged copies of it.
 const QUESTIONS: usize = 8;
+/// So many more are about what mapping reads before it comes to the stream, and nothing else.
+const STAGE_QUESTIONS: usize = 2;
+/// And so many about a file whose location list and directory have many pages, or a damaged copy of it.
+const LISTED_QUESTIONS: usize = 4;
 
 /// Questions about `count` containers, made one at a time, so that a list can be long.
 pub fn live(seed: u64, count: u64) -> impl Iterator<Item = Record> {
@@ -28,7 +34,9 @@ pub fn live(seed: u64, count: u64) -> impl Iterator<Item = Record> {
             1..=4 => sizes(&mut random, page_size, 100),
             _ => sizes(&mut random, page_size, 12),
         };
-        about(&mut random, page_size, sizes)
+        let mut records = about(&mut random, page_size, sizes);
+        records.extend(about_listed(&mut random));
+        records
     })
 }
 
@@ -53,7 +61,50 @@ fn about(random: &mut Random, page_size: usize, sizes: Vec<u32>) -> Vec<Record> 
         }
         about.ask(question);
     }
+    for i in 0..STAGE_QUESTIONS {
+        let question = question(random, &container, &about, i >= STAGE_QUESTIONS / 2);
+        about.ask(Question {
+            operations: STAGES,
+            rooms: stage_rooms(random, &about, &question),
+            ..question
+        });
+    }
     about.records
+}
+
+/// A file whose words are page numbers: its location list and its directory are wherever the header says.
+fn about_listed(random: &mut Random) -> Vec<Record> {
+    let page_size = random.pick(&[0x100, 0x100, 0x200, 0x400]);
+    let pages = need(HEADER_BLOCK, page_size) + 8 + random.below(60);
+    let mut about = About::new(stages::listed(random, page_size, pages));
+    for _ in 0..LISTED_QUESTIONS {
+        let edits = stages::edits(random, page_size, pages);
+        let mut question = Question {
+            stream: random.below(40) as u32,
+            ..about.edited(&edits)
+        };
+        if random.one_in(4) {
+            question.length -= random.below(question.length - HEADER_BLOCK);
+            let end = question.length;
+            question.edits.retain(|run| run.at + run.bytes.len() <= end);
+        }
+        question.rooms = stage_rooms(random, &about, &question);
+        about.ask(question);
+    }
+    about.records
+}
+
+/// Rooms about what one of the stages needs.
+fn stage_rooms(random: &mut Random, about: &About, question: &Question) -> Rooms {
+    let stage = random.pick(&[Stage::LocationList, Stage::Directory]);
+    let slices = about.needed_at(question, stage).unwrap_or(1);
+    let mut room = || match random.below(8) {
+        0 => random.below(slices + 1),
+        1 | 2 => slices.saturating_sub(1),
+        3..=5 => slices,
+        _ => slices + random.below(3),
+    };
+    rooms(room(), room(), 60)
 }
 
 /// The listing too, most often from the head. Its store is that of the stream's bytes, which is mostly

@@ -27,6 +27,7 @@ mod rules;
 mod shapes;
 mod show;
 mod source;
+mod stages;
 mod steps;
 mod tally;
 

@@ -1,6 +1,6 @@
 //! Our library's answers about a container, through the crate `trovespan`. It always answers.
 
-use super::answers::{Library, Refusal};
+use super::answers::{Library, Refusal, Stage};
 
 pub struct Ours;
 
@@ -33,6 +33,20 @@ impl Library for Ours {
         out: &mut [u8],
     ) -> Option<Result<usize, Refusal>> {
         Some(trovespan::extract(file, stream, limit, out).map_err(refusal))
+    }
+
+    fn need(
+        file: &[u8],
+        stage: Stage,
+        offsets: &mut [u64],
+        sizes: &mut [u64],
+    ) -> Result<(usize, usize), Refusal> {
+        let stage = match stage {
+            Stage::LocationList => trovespan::Stage::LocationList,
+            Stage::Directory => trovespan::Stage::Directory,
+        };
+        let needed = trovespan::needed_to_map(file, stage, offsets, sizes).map_err(refusal);
+        needed.map(|needed| (needed.slices, needed.length))
     }
 }
 

@@ -3,7 +3,7 @@
 
 use std::io::ErrorKind;
 
-use super::answers::{Library, Refusal};
+use super::answers::{Library, Refusal, Stage};
 use super::hostile;
 use super::lent::Lent;
 use super::listing::{listing, Listing};
@@ -70,18 +70,8 @@ impl<P: Lends> Library for P {
         offsets: &mut [u64],
         sizes: &mut [u64],
     ) -> Option<std::result::Result<(usize, usize), Refusal>> {
-        Some(match slices(P::lend(file), stream, limit)? {
-            Err(error) => Err(refusal(&error)),
-            Ok(slices) if slices.len() > offsets.len().min(sizes.len()) => no_room(slices.len()),
-            Ok(slices) => {
-                for (i, slice) in slices.iter().enumerate() {
-                    offsets[i] = slice.offset;
-                    sizes[i] = slice.size as u64;
-                }
-                let length = slices.iter().map(|slice| slice.size).sum();
-                Ok((slices.len(), length))
-            }
-        })
+        let slices = slices(P::lend(file), stream, limit)?;
+        Some(stored(slices, offsets, sizes))
     }
 
     fn extract(
@@ -104,9 +94,36 @@ impl<P: Lends> Library for P {
         })
     }
 
+    fn need(
+        file: &[u8],
+        stage: Stage,
+        offsets: &mut [u64],
+        sizes: &mut [u64],
+    ) -> std::result::Result<(usize, usize), Refusal> {
+        stored(needed(P::lend(file), stage), offsets, sizes)
+    }
+
     fn listing(file: &[u8]) -> Option<Listing> {
         listing(P::lend(file)).or_else(|| hostile::listing(file))
     }
+}
+
+/// Puts these slices into two stores, if both have room: the number of slices, and their length.
+fn stored(
+    slices: Result<Vec<SourceSlice>>,
+    offsets: &mut [u64],
+    sizes: &mut [u64],
+) -> std::result::Result<(usize, usize), Refusal> {
+    let slices = slices.map_err(|error| refusal(&error))?;
+    if slices.len() > offsets.len().min(sizes.len()) {
+        return no_room(slices.len());
+    }
+    for (i, slice) in slices.iter().enumerate() {
+        offsets[i] = slice.offset;
+        sizes[i] = slice.size as u64;
+    }
+    let length = slices.iter().map(|slice| slice.size).sum();
+    Ok((slices.len(), length))
 }
 
 fn no_room<T>(needed: usize) -> std::result::Result<T, Refusal> {
@@ -163,6 +180,17 @@ pub fn slices(
         return None;
     }
     Some(got.map(|_| seen.slices))
+}
+
+/// The slices of the part that pdb reads at a stage, on its way to a stream. Whether the part is there is not
+/// asked.
+pub fn needed(file: Lent<'_>, stage: Stage) -> Result<Vec<SourceSlice>> {
+    let (got, seen) = get(file, 0, None, Reading::Before(stage));
+    match (seen.part, got) {
+        (Some(slices), _) => Ok(slices),
+        (None, Err(error)) => Err(error),
+        (None, Ok(_)) => crate::stop("pdb finds a stream without the part before it"),
+    }
 }
 
 pub fn refusal(error: &Error) -> Refusal {

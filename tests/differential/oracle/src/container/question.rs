@@ -1,6 +1,6 @@
 //! A question about a container: an edited copy of a base file, and what is asked about it.
 
-use super::answers::{self, Answer, Library};
+use super::answers::{self, Answer, Library, Stage};
 use super::listing::Place;
 
 // The operations that a question asks for, as bits.
@@ -9,6 +9,11 @@ pub const COUNT: u8 = 2;
 pub const MAP: u8 = 4;
 pub const EXTRACT: u8 = 8;
 pub const LIST: u8 = 16;
+pub const LOCATION_LIST: u8 = 32;
+pub const DIRECTORY: u8 = 64;
+
+/// Both stages of what mapping reads.
+pub const STAGES: u8 = LOCATION_LIST | DIRECTORY;
 
 /// Bytes at a place of a file.
 #[derive(Clone, Debug)]
@@ -92,14 +97,17 @@ impl Question {
             sizes,
             bytes,
         } = self.rooms;
+        let rooms = (offsets, sizes);
         let ask = |operation| match operation {
             OPEN => Some(answers::open::<L>(file)),
             COUNT => answers::count::<L>(file),
-            MAP => answers::map::<L>(file, self.stream, self.limit, (offsets, sizes)),
+            MAP => answers::map::<L>(file, self.stream, self.limit, rooms),
             EXTRACT => answers::extract::<L>(file, self.stream, self.limit, bytes),
-            _ => L::listing(file).map(|listing| listing.answer(self.place(), bytes)),
+            LIST => L::listing(file).map(|listing| listing.answer(self.place(), bytes)),
+            LOCATION_LIST => Some(answers::need::<L>(file, Stage::LocationList, rooms)),
+            _ => Some(answers::need::<L>(file, Stage::Directory, rooms)),
         };
-        [OPEN, COUNT, MAP, EXTRACT, LIST]
+        [OPEN, COUNT, MAP, EXTRACT, LIST, LOCATION_LIST, DIRECTORY]
             .iter()
             .filter(|&&operation| self.operations & operation != 0)
             .map(|&operation| (operation, ask(operation)))

@@ -6,7 +6,7 @@ use super::files::{
     stream, word, Container, Stream, ABSENT, DIRECTORY_SIZE, ENTRIES, ENTRIES_HELD, HEADER_BLOCK,
     PAGES_USED, PAGE_SIZE,
 };
-use super::question::{Question, Run, Start, COUNT, EXTRACT, LIST, MAP, OPEN};
+use super::question::{Question, Run, Start, COUNT, EXTRACT, LIST, MAP, OPEN, STAGES};
 use crate::random::Random;
 
 const ALL_STREAMS: [u32; 4] = [0, 1, 2, 3];
@@ -227,7 +227,7 @@ pub fn location_limit(random: &mut Random) -> About {
             let bytes = (entries * words * size).min(0xffff_ffff) as u32;
             let edits = [word(PAGE_SIZE, size as u32), word(DIRECTORY_SIZE, bytes)];
             about.ask(Question {
-                operations: OPEN,
+                operations: OPEN | STAGES,
                 ..about.edited(&edits)
             });
         }
@@ -245,13 +245,14 @@ fn ask_location_limit(about: &mut About) {
         let edits = [word(DIRECTORY_SIZE, size), last.clone()];
         about.ask_streams(about.edited(&edits[..1]), &[2, 0]);
         about.ask_streams(about.edited(&edits), &[2]);
+        about.ask_stages(about.edited(&edits[..1]));
     }
     for at in DIRECTORY_SIZE..DIRECTORY_SIZE + 4 {
         // The third byte makes directories of many MiB.
         let operations = if at < DIRECTORY_SIZE + 2 {
-            OPEN | COUNT | MAP | EXTRACT
+            OPEN | COUNT | MAP | EXTRACT | STAGES
         } else {
-            OPEN | COUNT
+            OPEN | COUNT | STAGES
         };
         let question = Question {
             operations,
@@ -509,7 +510,7 @@ pub fn over_and_over(random: &mut Random) -> About {
             for &used in &[6, 0xffff_ffff] {
                 about.ask_with_room(Question {
                     limit: Some(0x3001),
-                    operations: COUNT | MAP | EXTRACT | LIST,
+                    operations: COUNT | MAP | EXTRACT | LIST | STAGES,
                     ..about.edited(&edits(directory, used, bytes))
                 });
             }
@@ -524,7 +525,7 @@ pub fn over_and_over(random: &mut Random) -> About {
     for &directory in &[0x0fff_ffff, 0x4000_0001, 0xfcc0_0000, 0xfcc0_0001] {
         about.ask(Question {
             limit: Some(0x3001),
-            operations: OPEN | COUNT | EXTRACT,
+            operations: OPEN | COUNT | EXTRACT | STAGES,
             ..about.edited(&[word(DIRECTORY_SIZE, directory), word(COUNT_WORD, 1)])
         });
     }

@@ -5,7 +5,7 @@ use std::fmt::Write;
 use super::list;
 use super::listing::whole;
 use super::pdb::Wanted;
-use super::question::{Question, COUNT, EXTRACT, LIST, MAP, OPEN};
+use super::question::{Question, COUNT, DIRECTORY, EXTRACT, LIST, LOCATION_LIST, MAP, OPEN};
 use crate::digest::{text, Digest};
 
 pub fn record(list: &[u8], n: usize) -> String {
@@ -74,6 +74,8 @@ pub fn name(operation: u8) -> &'static str {
         MAP => "map",
         EXTRACT => "extract",
         LIST => "list",
+        LOCATION_LIST => "location list",
+        DIRECTORY => "directory",
         _ => "unknown",
     }
 }

@@ -5,6 +5,7 @@ use std::cell::{Ref, RefCell};
 use std::io;
 use std::rc::Rc;
 
+use super::answers::Stage;
 use super::lent::Lent;
 use crate::common::Result;
 use crate::msf::{open_msf, Msf, Stream};
@@ -15,6 +16,7 @@ const LARGEST_VIEW: usize = 1 << 30;
 
 // pdb requests the header block, the location list, the directory and the stream, in this order. It keeps
 // the directory, so each later view is a stream's.
+const LOCATION_LIST: usize = 2;
 const DIRECTORY: usize = 3;
 const STREAM: usize = 4;
 
@@ -30,13 +32,27 @@ pub struct Seen {
     pub directory_size: usize,
     /// The slices of the last stream requested.
     pub slices: Vec<SourceSlice>,
+    /// The slices of the part that was not read, once it is requested.
+    pub part: Option<Vec<SourceSlice>>,
 }
 
-/// Whether the stream's own bytes are read. A mapping is an answer even if they are not there.
+/// What is read. A mapping is an answer even if the stream's own bytes are not there, and so is a stage's part.
 #[derive(Clone, Copy, Debug, Eq, PartialEq)]
 pub enum Reading {
     Streams,
     OnlyTheTable,
+    /// Nothing from this stage's part on: pdb is stopped there.
+    Before(Stage),
+}
+
+impl Reading {
+    fn stops_at(self, view: usize) -> bool {
+        match self {
+            Reading::Before(Stage::LocationList) => view == LOCATION_LIST,
+            Reading::Before(Stage::Directory) => view == DIRECTORY,
+            Reading::Streams | Reading::OnlyTheTable => false,
+        }
+    }
 }
 
 #[derive(Debug)]
@@ -92,6 +108,10 @@ impl<'s> Source<'s> for Watched<'s> {
     ) -> std::result::Result<Box<dyn SourceView<'s>>, io::Error> {
         let mut seen = self.seen.borrow_mut();
         seen.views += 1;
+        if self.reading.stops_at(seen.views) {
+            seen.part = Some(slices.to_vec());
+            return Err(io::Error::new(io::ErrorKind::Other, "not read"));
+        }
         let size = slices.iter().map(|slice| slice.size).sum();
         if size > LARGEST_VIEW {
             seen.over = true;
