@@ -9,7 +9,7 @@ use super::list::{self, Record};
 use super::listed::{listed, other_pages};
 use super::live::live;
 use super::pdb::Wanted;
-use super::question::{Question, COUNT, EXTRACT, MAP, OPEN};
+use super::question::{Question, COUNT, EXTRACT, LOCATION_LIST, MAP, OPEN, STAGES};
 use crate::random::Random;
 
 /// A pair is four records: each file as a base file, and the question about it.
@@ -95,10 +95,11 @@ fn put_small_magic(random: &mut Random, file: &mut [u8]) {
 /// parts of that list. In a pair for mapping the stream's own bytes are off the list.
 fn asked(random: &mut Random) -> u8 {
     match random.below(8) {
-        0 => OPEN,
-        1 => OPEN | COUNT,
-        2..=4 => OPEN | COUNT | MAP,
-        _ => OPEN | COUNT | MAP | EXTRACT,
+        0 => OPEN | LOCATION_LIST,
+        1 => OPEN | STAGES,
+        2 => OPEN | STAGES | COUNT,
+        3 | 4 => OPEN | STAGES | COUNT | MAP,
+        _ => OPEN | STAGES | COUNT | MAP | EXTRACT,
     }
 }
 

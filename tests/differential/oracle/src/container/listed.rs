@@ -4,28 +4,31 @@
 use std::ops::Range;
 
 use super::files::{need, BIG_MAGIC, DIRECTORY_SIZE, ENTRIES, PAGES_USED, PAGE_SIZE};
-use super::question::{Question, COUNT, EXTRACT, MAP};
+use super::question::{Question, COUNT, DIRECTORY, EXTRACT, MAP};
 use super::steps::{counted, headed, list_read, placed, readable, wanted, MOST_LOCATIONS};
 
 /// Some of a file's bytes.
 pub struct Bytes(Vec<bool>);
 
-/// The bytes that the question's operations depend on. The list of each operation includes that of the
-/// one before it.
+/// The bytes that the question's operations depend on. Opening and the location list's part have one list;
+/// the directory's part, the count, mapping and extraction each include the list of the one before.
 pub fn listed(file: &[u8], question: &Question) -> Bytes {
     let k = question.stream as usize;
+    let asks = |operations| question.operations & operations != 0;
     let mut listed = Bytes::none(file);
     listed.put_header(file);
     listed.put_location_entries(file);
-    if question.operations >= COUNT {
+    if asks(DIRECTORY | COUNT | MAP | EXTRACT) {
         listed.put_location_list(file);
+    }
+    if asks(COUNT | MAP | EXTRACT) {
         listed.put_count(file);
     }
-    if question.operations >= MAP {
+    if asks(MAP | EXTRACT) {
         listed.put_sizes(file, k);
         listed.put_own_page_entries(file, k);
     }
-    if question.operations >= EXTRACT {
+    if asks(EXTRACT) {
         listed.put_slices(file, k, question.limit);
     }
     listed
