@@ -1,15 +1,16 @@
-//! Streams do not leak: pairs of files of equal length that agree on the bytes that answers about a
-//! stream depend on, and differ elsewhere. pdb must answer the same for both, as it is asked for what ours
-//! must answer.
+//! Streams do not leak: pairs of files that agree on the bytes that answers about a stream depend on, and
+//! differ elsewhere. They have equal length, or both hold the location list and the directory and no stream is
+//! extracted. pdb must answer the same for both, as it is asked for what ours must answer.
 
 use std::io::{self, Write};
 
 use super::files::SMALL_MAGIC;
-use super::list::{self, Record};
+use super::list::{self, Record, LONGEST_FILE};
 use super::listed::{listed, other_pages};
 use super::live::live;
 use super::pdb::Wanted;
 use super::question::{Question, COUNT, EXTRACT, LOCATION_LIST, MAP, OPEN, STAGES};
+use super::steps::held;
 use crate::random::Random;
 
 /// A pair is four records: each file as a base file, and the question about it.
@@ -27,6 +28,8 @@ struct Figures {
     pairs: usize,
     bytes: usize,
     changed: usize,
+    /// The pairs whose files differ in length.
+    lengths: usize,
     /// The pairs for which pdb's answers differ.
     leaks: Vec<usize>,
 }
@@ -123,11 +126,28 @@ fn pair(random: &mut Random, first: Vec<u8>, question: Question) -> Option<Pair>
     for at in places {
         second[at] ^= 1 + random.below(255) as u8;
     }
+    if question.operations & EXTRACT == 0 && random.one_in(2) {
+        change_length(random, &first, &mut second);
+    }
     Some(Pair {
         question,
         first,
         second,
     })
+}
+
+/// Cuts the second file of a pair, at the earliest where the first one's directory ends, or extends it. Without
+/// a directory that ends in the file its length stays.
+fn change_length(random: &mut Random, first: &[u8], second: &mut Vec<u8>) {
+    if let Some(held) = held(first) {
+        let length = match random.below(4) {
+            0 => held,
+            1 => first.len() + random.below(LONGEST_FILE + 1 - first.len()),
+            _ => held + random.below(first.len() + 1 - held),
+        };
+        second.truncate(length);
+        second.resize_with(length, || random.byte());
+    }
 }
 
 impl Pair {
@@ -142,11 +162,15 @@ impl Pair {
     }
 
     fn records(self) -> Vec<Record> {
+        let length = self.second.len();
         vec![
             Record::Base(self.first),
             Record::Question(self.question.clone()),
             Record::Base(self.second),
-            Record::Question(self.question),
+            Record::Question(Question {
+                length,
+                ..self.question
+            }),
         ]
     }
 }
@@ -159,12 +183,13 @@ impl Figures {
         self.pairs += 1;
         self.bytes += pair.first.len();
         self.changed += pair.changed();
+        self.lengths += usize::from(pair.first.len() != pair.second.len());
     }
 
     fn judge(&self, count: u64) {
         eprintln!(
-            "oracle: {} pairs, {} of {} bytes changed",
-            self.pairs, self.changed, self.bytes
+            "oracle: {} pairs, {} of {} bytes changed, {} other lengths",
+            self.pairs, self.changed, self.bytes, self.lengths
         );
         if let Some(first) = self.leaks.first() {
             crate::stop(&format!(
@@ -177,6 +202,9 @@ impl Figures {
         }
         if self.changed == 0 || (self.pairs as u64) < count {
             crate::stop("there are not as many pairs whose bytes differ");
+        }
+        if self.lengths == 0 && count >= 100 {
+            crate::stop("there is no pair whose lengths differ");
         }
     }
 }

@@ -73,6 +73,24 @@ pub fn counted(file: &[u8]) -> Option<Header<'_>> {
     reached(file).filter(|header| header.holds(1))
 }
 
+/// The length that the count and the mapping need: a file of that length holds the header block, and the
+/// location list and the directory if these stages are reached. `None` if the file is shorter.
+pub fn held(file: &[u8]) -> Option<usize> {
+    if file.len() < HEADER_BLOCK {
+        return None;
+    }
+    let mut held = HEADER_BLOCK;
+    if let Some(header) = located(file) {
+        let pages = header.directory_pages();
+        held = held.max(header.end(|j| header.location(j), 4 * pages));
+        let page = |j| header.directory_page(j);
+        if held <= file.len() && header.fit(page, pages) {
+            held = held.max(header.end(page, header.directory_size));
+        }
+    }
+    Some(held).filter(|&held| held <= file.len())
+}
+
 /// Step 7 up to k's own page entries, which are not yet read.
 pub fn placed(file: &[u8], k: usize) -> Option<Own<'_>> {
     let header = counted(file).filter(|header| k < header.count() && header.holds(2 + k))?;
@@ -172,8 +190,15 @@ impl Header<'_> {
 
     /// Whether the first `size` bytes of these pages lie in the file.
     fn lies_in_file(&self, page: impl Fn(usize) -> usize, size: usize) -> bool {
+        self.end(page, size) <= self.file.len()
+    }
+
+    /// Where the last of the first `size` bytes of these pages ends, in the file's order.
+    fn end(&self, page: impl Fn(usize) -> usize, size: usize) -> usize {
         (0..need(size, self.page_size))
-            .all(|j| page(j) * self.page_size + wanted(self.page_size, size, j) <= self.file.len())
+            .map(|j| page(j) * self.page_size + wanted(self.page_size, size, j))
+            .max()
+            .unwrap_or(0)
     }
 }
 
