@@ -2,11 +2,13 @@
 //!
 //! An input is the project's file F except for what it names. As in the table, a place in F's location
 //! list or directory is a byte number. R11, R12 and R46 to R59 are about annotations, R60 about reads
-//! (`buffer/rules.rs`), R61 to R70 about the listing.
+//! (`buffer/rules.rs`), R61 to R70 about the listing, R132 to R136 about the parts that mapping reads.
 
 use super::ask::About;
 use super::files::{Container, DIRECTORY_SIZE, ENTRIES, PAGES_USED, PAGE_SIZE, SMALL_MAGIC};
-use super::question::{Question, Rooms, Run, Start, COUNT, EXTRACT, LIST, MAP, OPEN};
+use super::question::{
+    Question, Rooms, Run, Start, COUNT, EXTRACT, LIST, MAP, OPEN, STAGES,
+};
 use crate::random::Random;
 
 const FREE_PAGE_MAP: usize = 36;
@@ -33,6 +35,7 @@ pub fn rows(random: &mut Random) -> About {
         slices(),
         listing_refused(),
         listing(),
+        parts(),
     ];
     for question in rows.concat() {
         about.ask(question);
@@ -286,6 +289,29 @@ fn slices() -> Vec<Question> {
     ]
 }
 
+fn parts() -> Vec<Question> {
+    vec![
+        // R132
+        f().parts(),
+        f().put(ENTRIES, &[5]).parts(),
+        f().put(ENTRIES, &[24]).parts(),
+        // R133
+        f().put(768, &[23]).parts(),
+        f().put(768, &[24]).parts(),
+        f().put(DIRECTORY_SIZE, &[0]).parts(),
+        // R134
+        f().put(DIRECTORY_SIZE, &[257]).put(768, &[4, 5]).parts(),
+        f().put(DIRECTORY_SIZE, &[257]).put(768, &[4, 6]).parts(),
+        // R135
+        f().put(768, &[20]).cut(4096).parts(),
+        f().put(ENTRIES, &[20]).cut(4096).parts(),
+        // R136
+        f().parts().rooms(1, 1),
+        f().parts().rooms(1, 0),
+        f().put(DIRECTORY_SIZE, &[257]).put(768, &[4, 6]).parts().rooms(1, 2),
+    ]
+}
+
 fn listing_refused() -> Vec<Question> {
     let no_magic = || f().bytes(0, &[0]);
     vec![
@@ -465,6 +491,14 @@ impl Question {
         Question {
             operations: OPEN | COUNT | MAP | EXTRACT,
             stream,
+            ..self
+        }
+    }
+
+    /// Both parts that mapping reads.
+    fn parts(self) -> Self {
+        Question {
+            operations: STAGES,
             ..self
         }
     }
