@@ -114,7 +114,12 @@ module _ (f g : File) (len : ℕ) (agree : Agree (ListedCount f len) f g) where
   opens i l = agree i (ListedCount.opening l)
 
   pub lists : AgreeOnList f g len
-  lists = record { is = λ {i} {j} {h} o inside l w. agree i (ListedCount.list {j = j} {h = h} (cc) inside (omega arith) w) }
+  lists =
+      record {
+        is = λ {i} {j} {h} o inside l w.
+            let at = is-located f len o in
+            agree i (ListedCount.list {j = j} {h = h} (cc) inside (omega arith) w);
+      }
 
   pub reached-same : reached f len ≡ reached g len
   unfolding reached
