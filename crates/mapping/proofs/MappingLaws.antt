@@ -100,23 +100,26 @@ module _ {f : File} {len : ℕ} {m : Measured} (p : Sound f len m) (room : ℕ) 
 
 pub ruleset fit-cases = (fit-refused, fit-no-room, fit-counted, fit-few)
 
+-- ---- an outcome of another kind, whose extents are judged and written: room, answer and stores are by its own slices
+abbrev Alike : {A : Type 0} → File → (A → Extent) → (A → List SourceSlice) → Outcome paper.Refusal A → Type 0
+Alike {A} f extent slices o = (a : A) → o ≡ ok a → slices a ≡ slicesThrough f (extent a)
+
+require-extent : {A : Type 0} (extent : A → Extent) (a : A) (b : Bool) (why : paper.Refusal) → require b why >> ok (extent a) ≡ (require b why >> ok a >>= λ x. ok (extent x))
+unfolding require _>>=_ _>>_
+require-extent extent a true why = refl
+require-extent extent a false why = refl
+
+pub fitted-alike : {A : Type 0} (f : File) (extent : A → Extent) (slices : A → List SourceSlice) (o : Outcome paper.Refusal A) (room : ℕ) → Alike f extent slices o → fitted f (o >>= λ a. ok (extent a)) room ≡ ((o >>= λ a. require (leb (length (slices a)) room) (refusalIn (NoRoom (length (slices a)))) >> ok a) >>= λ a. ok (extent a))
+unfolding fitted _>>=_
+fitted-alike f extent slices (ok a) room same = rw (same a refl) (require-extent extent a _ _)
+fitted-alike f extent slices (refused why) room same = refl
+
 -- ---- `judge`
-require-extent : (x : Asked) (b : Bool) (why : paper.Refusal) → require b why >> ok (extentOf x) ≡ extents (require b why >> ok x)
-unfolding extents require _>>=_ _>>_
-require-extent x true why = refl
-require-extent x false why = refl
-
--- room is judged of the extent, or of what was asked for: that is the same
-fitted-asked : (f : File) (room : ℕ) (o : Outcome paper.Refusal Asked) → ((x : Asked) → o ≡ ok x → slicesIn f x ≡ slicesThrough f (extentOf x)) → fitted f (extents o) room ≡ extents (o >>= λ x. require (leb (length (slicesIn f x)) room) (refusalIn (NoRoom (length (slicesIn f x)))) >> ok x)
-unfolding fitted extents _>>=_
-fitted-asked f room (ok x) same = rw (same x refl) (require-extent x _ _)
-fitted-asked f room (refused why) same = refl
-
 pub judge-fine : {f : File} {len k : ℕ} {limit : Limit} {m r : Measured} {room : ℕ} → Measuring f len k limit m → Fitting f len room m r → Judging f len k limit room r
-unfolding mapping
+unfolding mapping extents
 judge-fine {f} {len} {k} {limit} {m} {r} {room} p q =
     record {
-      answer = q .answer ∙ ap (λ (o : Outcome paper.Refusal Extent). fitted f o room) (p .answer) ∙ fitted-asked f room (asked f len k limit) (λ x e. slices-asked f len k limit e);
+      answer = q .answer ∙ ap (λ (o : Outcome paper.Refusal Extent). fitted f o room) (p .answer) ∙ fitted-alike f extentOf (slicesIn f) (asked f len k limit) room (λ x e. slices-asked f len k limit e);
       judged = q .judged;
     }
 
@@ -187,10 +190,6 @@ module _ {f : File} {len : ℕ} {j : Measured} (o t : List ℕ) (p : Judged f le
         record { answer = rw (w .count, e); offsets-after = w .offsets-are ∙ rw e; sizes-after = w .sizes-are ∙ rw e }
 
 pub ruleset write-cases = (write-refused, write-fine)
-
--- ---- an outcome of another kind, of which the extents were judged: what was written is by its own slices
-abbrev Alike : {A : Type 0} → File → (A → Extent) → (A → List SourceSlice) → Outcome paper.Refusal A → Type 0
-Alike {A} f extent slices o = (a : A) → o ≡ ok a → slices a ≡ slicesThrough f (extent a)
 
 pub mapped-alike : {A : Type 0} (f : File) (extent : A → Extent) (slices : A → List SourceSlice) (o : Outcome paper.Refusal A) → Alike f extent slices o → mappedOf f (o >>= λ a. ok (extent a)) ≡ (o >>= λ a. ok (record { slices = length (slices a); length = extent a .bytes }))
 unfolding mappedOf _>>=_

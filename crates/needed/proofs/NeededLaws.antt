@@ -1,19 +1,15 @@
 -- The ways out of the two stages, and what was judged and written of their parts.
 use mathlib.Core.Path.{_≡_, refl, sym, _∙_, ap}
-use mathlib.Core.Bool.{Bool, true, false}
 use mathlib.Core.List.{List}
 use Prim.Native.Nat.{ℕ, _*_, _^_, min, _≤_, _<_}
 use native.Mathlib.Omega.{arith}
-use lib.Dec.{leb}
 use lib.ListN.{length}
-use Rattle.outcome.specs.Outcome.{Outcome, ok, refused, _>>=_, _>>_, require}
+use Rattle.outcome.specs.Outcome.{Outcome, ok, refused, _>>=_, _>>_}
 use Rattle.outcome.specs.Refusal as paper
 use Rattle.parse_buffer.specs.Bytes.{File}
 use Rattle.paged.specs.PageSize.{need}
 use Rattle.paged.proofs.SizeLaws.{need-le}
-use Rattle.paged.specs.Refusal.{refusalIn}
 use Rattle.paged.specs.declared.refusal.Refusal.{Refusal}
-use Rattle.paged.specs.declared.refusal.Refusal.the-variants.{NoRoom}
 use Rattle.paged.specs.declared.pages.Pages.the-variants as pages
 use Rattle.runs.proofs.LyingLaws.{location-lies}
 use Rattle.header.specs.Header.{directoryPages, located}
@@ -32,7 +28,7 @@ use Rattle.extent.specs.declared.Measured.{Measured}
 use Rattle.extent.specs.declared.Measured.the-variants as measured
 use Rattle.slices.specs.declared.SourceSlice.{SourceSlice}
 use Rattle.mapping.specs.Inner.{Judged, fitted, Fitting, mappedOf, Puts}
-use Rattle.mapping.proofs.MappingLaws.{mapped-alike, written-alike}
+use Rattle.mapping.proofs.MappingLaws.{fitted-alike, mapped-alike, written-alike}
 use Rattle.mapping.specs.declared.Mapping.{Mapping}
 use Rattle.needed.specs.Needed.{placed, slicesAt, needing, needed}
 use Rattle.needed.specs.Inner.{extentAt, Parting}
@@ -99,28 +95,14 @@ pub ruleset directory-cases = (directory-none, directory-part)
 pub part-by : {f : File} {len : ℕ} {s t : Stage} {r : Measured} → s ≡ t → Parting f len t r → Parting f len s r
 part-by e p = rw e p
 
--- ---- room is judged of the part's extent, or of its slices: that is the same
-require-extent : (stage : Stage) (h : Header) (b : Bool) (why : paper.Refusal) → require b why >> ok (extentAt stage h) ≡ (require b why >> ok h >>= λ g. ok (extentAt stage g))
-unfolding require _>>=_ _>>_
-require-extent stage h true why = refl
-require-extent stage h false why = refl
-
--- a part by its steps, and by its extents
-abbrev parts : File → ℕ → Stage → Outcome paper.Refusal Extent
-parts f len stage = placed f len stage >>= λ h. ok (extentAt stage h)
-
-fitted-part : (f : File) (stage : Stage) (room : ℕ) (o : Outcome paper.Refusal Header) → fitted f (o >>= λ h. ok (extentAt stage h)) room ≡ ((o >>= λ h. require (leb (length (slicesAt f stage h)) room) (refusalIn (NoRoom (length (slicesAt f stage h)))) >> ok h) >>= λ h. ok (extentAt stage h))
-unfolding fitted _>>=_
-fitted-part f stage room (ok h) = require-extent stage h _ _
-fitted-part f stage room (refused why) = refl
-
+-- ---- what was judged and written of a part
 module _ {f : File} {len room : ℕ} {stage : Stage} {m j : Measured} (p : Parting f len stage m) (q : Fitting f len room m j) where
   judged-part : measuredIn j ≡ (needing f len stage room >>= λ h. ok (extentAt stage h))
   unfolding needing
   judged-part =
       q .answer
       ∙ ap (λ (o : Outcome paper.Refusal Extent). fitted f o room) (p .answer)
-      ∙ fitted-part f stage room (placed f len stage)
+      ∙ fitted-alike f (extentAt stage) (slicesAt f stage) (placed f len stage) room (λ _ _. refl)
 
   module _ (o t : List ℕ) (room-is : room ≡ min (length o) (length t)) where
     pub needed-judged : Judged f len (min (length o) (length t)) j
