@@ -2,6 +2,8 @@
 //
 // record.rt: a record of the list. range.rt: which records can be written. operands.rt: the numbers of a record, their
 // width, and their bytes.
+#![tactic(auto)]
+
 mod operands;
 mod range;
 mod record;

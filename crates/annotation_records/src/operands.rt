@@ -10,7 +10,7 @@ use crate::record::Record;
 use shortest::{put_short, short_width};
 
 // An opcode and its operands, each below 2^29. Only 12 has the second one.
-#[derive(Drop)]
+#[derive(Clone, Copy)]
 pub struct Numbers {
     pub opcode: u32,
     pub first: u32,

@@ -15,7 +15,7 @@ const LARGEST_ABOVE: i64 = 16777215;
 const LARGEST_NIBBLE: i64 = 15;
 
 // From one number to another, both included.
-#[derive(Drop)]
+#[derive(Clone, Copy)]
 pub(crate) struct Range {
     pub low: i64,
     pub high: i64,

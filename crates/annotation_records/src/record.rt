@@ -5,7 +5,7 @@ ghost use Rattle.annotation_records.specs.Records.{count, record_at};
 // How many entries of the list a record takes.
 pub const ENTRIES_EACH: usize = 3;
 
-#[derive(Drop)]
+#[derive(Clone, Copy)]
 pub struct Record {
     pub opcode: i64,
     pub first: i64,

@@ -3,6 +3,8 @@
 //
 // refusal.rt: why a list is refused. write.rt: the operation. Crate `annotation_records` below judges and writes one
 // record.
+#![tactic(auto)]
+
 mod refusal;
 mod write;
 

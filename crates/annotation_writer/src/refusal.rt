@@ -2,7 +2,7 @@
 ghost use Rattle.std.specs.Prelude.{◌≡◌};
 ghost use Rattle.annotation_writer.specs.Refusal.{refusal_in};
 
-#[derive(Drop)]
+#[derive(Clone, Copy)]
 pub enum Refusal {
     // The first record, counted from 0, that has an opcode outside 1 to 13 or a number that its opcode cannot carry.
     BadRecord(usize),

@@ -10,7 +10,7 @@ ghost use Rattle.annotation_writer.specs.Promises.{Writing};
 use crate::refusal::Refusal;
 use annotation_records::{ENTRIES_EACH, is_writable, numbers_of, record_at};
 
-#[derive(Drop)]
+#[derive(Clone, Copy)]
 pub enum Written {
     // How many bytes the list takes.
     Length(usize),

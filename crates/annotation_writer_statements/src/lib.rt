@@ -2,6 +2,8 @@
 //
 // specs/Statements.antt: no second answer, the round trip, the shortest form, bytes that follow and come before.
 // specs/Exactly.antt: when each refusal comes. specs/Cases.antt: lists and their bytes.
+#![tactic(auto)]
+
 ghost use Rattle.annotation_writer_statements.specs.Statements.{Told, SingleValued, RoundTrip, SameEntries};
 ghost use Rattle.annotation_writer_statements.specs.Statements.{Shortest, MoreBytes, FromAPlace};
 ghost use Rattle.annotation_writer_statements.specs.Exactly.{CarriesExactly, RefusedExactly};

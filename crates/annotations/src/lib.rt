@@ -2,6 +2,8 @@
 //
 // annotation.rt: the thirteen annotations. operands.rt: an opcode and its operands as they are read. step.rt: one step
 // from a place. Crate `numbers` below reads their numbers; crate `decode` above takes all steps, into a lent store.
+#![tactic(auto)]
+
 mod annotation;
 mod operands;
 mod step;

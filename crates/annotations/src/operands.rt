@@ -8,7 +8,7 @@ use numbers::{PlacedRefusal, Refusal, is_shortest, value_at, why_at, width_at};
 
 // An opcode of 1 to 13, its operands as they were read, whether all these numbers were shortest, and the place after
 // them. Only 12 has the second operand.
-#[derive(Drop)]
+#[derive(Clone, Copy)]
 pub struct Operands {
     pub opcode: u32,
     pub first: u32,
@@ -18,7 +18,7 @@ pub struct Operands {
 }
 
 // What a step reads, always with the place after it.
-#[derive(Drop)]
+#[derive(Clone, Copy)]
 pub enum OperandStep {
     Annotation(Operands),
     End(usize),

@@ -1,5 +1,7 @@
 // What crosses of the operations on binary annotations: each as a function that returns a number, and writes its other
 // results to the numbers that it is lent. `trovespan` exports these.
+#![tactic(auto)]
+
 ghost use Rattle.annotations_crossing.specs.Promises.{Numbers, Steps, Decodes, Runs};
 ghost use Rattle.annotations_crossing.specs.Statements.{SingleValued};
 

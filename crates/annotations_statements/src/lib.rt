@@ -2,6 +2,8 @@
 //
 // specs/Statements.antt: no second answer, the signed reading, numbers, steps and decoding all.
 // specs/Cases.antt: the (P) cases.
+#![tactic(auto)]
+
 ghost use Rattle.annotations_statements.specs.Cases.{Cases};
 ghost use Rattle.annotations_statements.specs.Statements.{Told, SingleValued, SignedReading, AtMostHalf};
 ghost use Rattle.annotations_statements.specs.Statements.{NumberExactly, Agreement, DecodeExactly};

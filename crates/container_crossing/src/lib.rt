@@ -1,5 +1,7 @@
 // What crosses of the container's operations: each as a function that returns a number, and writes its other results to
 // the numbers that it is lent. `trovespan` exports these.
+#![tactic(auto)]
+
 ghost use Rattle.std.specs.Prelude.{◌≡◌, length};
 ghost use Rattle.parse_buffer.specs.Bytes.{byte_at};
 ghost use Rattle.mapping.specs.Mapping.{mapped_in};

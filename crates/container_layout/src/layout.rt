@@ -13,7 +13,7 @@ use stream::{ABSENT, pages_of};
 
 // Where the parts lie: P, the pages of all streams and of the directory, the location page, which is the last data
 // page, and pages_used.
-#[derive(Drop)]
+#[derive(Clone, Copy)]
 pub struct Layout {
     pub pagesize: usize,
     pub streams: usize,
@@ -22,7 +22,7 @@ pub struct Layout {
     pub used: usize,
 }
 
-#[derive(Drop)]
+#[derive(Clone, Copy)]
 pub enum Planned {
     Layout(Layout),
     Refused(Refusal),

@@ -3,6 +3,8 @@
 //
 // refusal.rt: why a container is not written. place.rt: the numbers of the data pages. layout.rt: how much there is of
 // each part, and whether the format can hold it. Crate `container_writer` above writes the file.
+#![tactic(auto)]
+
 mod layout;
 mod place;
 mod refusal;

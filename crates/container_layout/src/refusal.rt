@@ -2,7 +2,7 @@
 ghost use Rattle.std.specs.Prelude.{◌≡◌};
 ghost use Rattle.container_layout.specs.Refusal.{refusal_in};
 
-#[derive(Drop)]
+#[derive(Clone, Copy)]
 pub enum Refusal {
     // The page size has not one bit set, or is outside the limits.
     InvalidPageSize(u32),

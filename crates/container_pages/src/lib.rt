@@ -2,6 +2,8 @@
 //
 // fill.rt: zeros and numbers. numbers.rt: pages of numbers, which are the header's, the directory's and the location
 // list's. maps.rt: the free-map pages, and where the data pages behind them begin.
+#![tactic(auto)]
+
 mod fill;
 mod maps;
 mod numbers;

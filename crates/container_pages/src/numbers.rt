@@ -8,7 +8,7 @@ use crate::fill::put_number;
 use container_layout::{Layout, data_page};
 
 // Which numbers.
-#[derive(Drop)]
+#[derive(Clone, Copy)]
 pub enum Numbers {
     Header,
     Directory,

@@ -1,5 +1,7 @@
 // The data pages of one part of a container (a stream, the directory or the location list), with the map pages that
 // lie before them. A part begins a page, and what it leaves of its last page is zeros.
+#![tactic(auto)]
+
 ghost use Rattle.std.specs.Prelude.{◌+◌, ◌*◌, ◌/◌, ◌^◌, ◌<◌, length};
 ghost use Rattle.paged.specs.PageSize.{need};
 ghost use Rattle.container_pages.specs.Inner.{Bounds, Laid, numbers_of};

@@ -2,6 +2,8 @@
 //
 // specs/Statements.antt: no second answer, the byte, the slices, the two forms of a mapping, need(b), each stream's own
 // entries. specs/Cases.antt: the (P) cases on document 01's file F.
+#![tactic(auto)]
+
 ghost use Rattle.container_statements.specs.Cases.{Cases};
 ghost use Rattle.container_statements.specs.Statements.{Told, SingleValued, TheByte, TheSlices, BothForms, PagesNeeded, Own};
 

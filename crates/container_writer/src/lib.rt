@@ -3,6 +3,8 @@
 //
 // Crate `container_layout` below says where each part lies, `container_pages` has the pages that are not copied, and
 // `container_parts` the data pages of one stream, and those of the directory or the location list.
+#![tactic(auto)]
+
 mod write;
 
 pub use container_layout::Refusal;

@@ -12,7 +12,7 @@ use container_pages::{Numbers, put_numbers, put_zeros};
 use container_parts::{write_numbers, write_stream};
 use store::put;
 
-#[derive(Drop)]
+#[derive(Clone, Copy)]
 pub enum Written {
     // How many bytes the file has.
     Length(usize),

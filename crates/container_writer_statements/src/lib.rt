@@ -4,6 +4,8 @@
 // specs/ReadBack.antt: reading the file gives back what was written. specs/Roles.antt: every page has one role.
 // specs/Contents.antt: the header's words, the free map, zeros, and which bytes depend on the input's.
 // specs/Exactly.antt: when each refusal comes.
+#![tactic(auto)]
+
 ghost use Rattle.container_writer_statements.specs.Stored.{Told, SingleValued, Stored};
 ghost use Rattle.container_writer_statements.specs.ReadBack.{ReadBack};
 ghost use Rattle.container_writer_statements.specs.Roles.{OneRole};

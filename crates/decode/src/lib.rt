@@ -1,5 +1,7 @@
 // Decodes all annotations of a line program into a lent store. The first pass counts them and the second writes them,
 // so a refusal has written nothing.
+#![tactic(auto)]
+
 ghost use Rattle.std.specs.Prelude.{◌≡◌, ◌+◌, ◌≤◌, length};
 ghost use Rattle.std.proofs.lemmas.List.Edits.{sets};
 ghost use Rattle.decode.specs.Decode.{entries_each, entries_of, decoded_entries};
@@ -14,7 +16,7 @@ use triples::triple_of;
 // How many entries of the store an annotation takes.
 pub const ENTRIES_EACH: usize = 4;
 
-#[derive(Drop)]
+#[derive(Clone, Copy)]
 pub enum Decoded {
     // How many annotations there are.
     Count(usize),
@@ -23,7 +25,7 @@ pub enum Decoded {
     NoRoom(usize),
 }
 
-#[derive(Drop)]
+#[derive(Clone, Copy)]
 pub(crate) enum CountedAll {
     All(usize),
     Refused(PlacedRefusal),

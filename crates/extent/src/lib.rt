@@ -2,6 +2,8 @@
 //
 // limit.rt: the limit. This file: `measure` finds a stream and applies the limit; `readable` also checks that the bytes
 // lie in the file.
+#![tactic(auto)]
+
 mod limit;
 
 ghost use Rattle.std.specs.Prelude.{◌≡◌, length};
@@ -15,7 +17,7 @@ use runs::{Checked, lies_in_file};
 use stream::{Found, Sought, find};
 
 // The first `bytes` bytes of a paged object. They take `pages` pages, whose numbers are the first of this list.
-#[derive(Drop)]
+#[derive(Clone, Copy)]
 pub struct Extent {
     pub pagesize: usize,
     pub list: Pages,
@@ -23,7 +25,7 @@ pub struct Extent {
     pub pages: usize,
 }
 
-#[derive(Drop)]
+#[derive(Clone, Copy)]
 pub enum Measured {
     Extent(Extent),
     Refused(Refusal),

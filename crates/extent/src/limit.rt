@@ -4,7 +4,7 @@ ghost use Rattle.extent.specs.Extent.{length_of};
 
 use paged::least;
 
-#[derive(Drop)]
+#[derive(Clone, Copy)]
 pub enum Limit {
     None,
     AtMost(usize),

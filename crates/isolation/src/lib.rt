@@ -4,6 +4,8 @@
 // them give the same answers and stores. NamedExactly.antt, Stages.antt, InFile.antt and Tight.antt there: what is not
 // on the list. Corollaries.antt: what a reader wants of it.
 
+#![tactic(auto)]
+
 ghost use Rattle.std.specs.Prelude.{ℕ};
 ghost use Rattle.parse_buffer.specs.Bytes.{File};
 ghost use Rattle.extent.specs.declared.limit.Limit.{Limit};

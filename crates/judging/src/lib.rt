@@ -1,5 +1,7 @@
 // Judging annotations, before anything is written. skip.rt: where an annotation ends. judged.rt: what it says, once it
 // is judged. found.rt: both at once. stop.rt: why there is none.
+#![tactic(auto)]
+
 mod found;
 mod judged;
 mod skip;

@@ -6,7 +6,7 @@ ghost use Rattle.judging.specs.Inner.{Skipping, Stopping};
 use numbers::{PlacedRefusal, Refusal, value_at, why_at, width_at};
 
 // A step that answers no annotation, always with the place after it.
-#[derive(Drop)]
+#[derive(Clone, Copy)]
 pub enum Stopped {
     End(usize),
     Refused(PlacedRefusal),

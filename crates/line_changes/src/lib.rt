@@ -1,5 +1,7 @@
 // The changes of a line program's state that annotations are made of (docs/LINES.md). A record is handed out when the
 // next one is emitted: until then its length may be set.
+#![tactic(auto)]
+
 ghost use Rattle.std.specs.Prelude.{◌≡◌, ◌+◌};
 ghost use Rattle.line_state.specs.State.{with_code};
 ghost use Rattle.line_state.specs.declared.state.MaybeLine.TheVariants as maybe;
@@ -13,13 +15,13 @@ use line_state::{Length, Line, MaybeLine, Position, State, Sum, advanced};
 const LARGEST_OFFSET: u64 = 0xffff_ffff;
 
 // The next state, and the record that was closed, if one was.
-#[derive(Drop)]
+#[derive(Clone, Copy)]
 pub struct After {
     pub state: State,
     pub closed: MaybeLine,
 }
 
-#[derive(Drop)]
+#[derive(Clone, Copy)]
 pub enum Turned {
     On(After),
     // 25.

@@ -1,4 +1,6 @@
 // A line record in the store: eight signed numbers (docs/LINES.md).
+#![tactic(auto)]
+
 ghost use Rattle.std.specs.Prelude.{◌≡◌, ◌+◌, ◌^◌, ◌≤◌, ◌<◌, length};
 ghost use Rattle.std.proofs.lemmas.List.Edits.{sets};
 ghost use Rattle.line_entries.specs.Entries.{listed, entries_each, length_entry, line_entries};

@@ -4,7 +4,7 @@ ghost use Rattle.line_state.specs.State.{start, offset_of};
 ghost use Rattle.line_state.specs.State.{with_code, with_base, with_file, with_line, with_count, with_kind, with_start, with_end};
 
 // What annotations set and advance. The line and the end column may fall below zero.
-#[derive(Drop)]
+#[derive(Clone, Copy)]
 pub struct Position {
     // The code offset, and the base that it is relative to.
     pub code: u32,
@@ -20,28 +20,28 @@ pub struct Position {
 }
 
 // The length of a record, in bytes of code, if it has one yet.
-#[derive(Drop)]
+#[derive(Clone, Copy)]
 pub enum Length {
     None,
     Bytes(u32),
 }
 
 // A line record.
-#[derive(Drop)]
+#[derive(Clone, Copy)]
 pub struct Line {
     pub at: Position,
     pub length: Length,
 }
 
 // A record, or none.
-#[derive(Drop)]
+#[derive(Clone, Copy)]
 pub enum MaybeLine {
     None,
     Some(Line),
 }
 
 // `last` is the record that was emitted last. Its length may still be set.
-#[derive(Drop)]
+#[derive(Clone, Copy)]
 pub struct State {
     pub at: Position,
     pub last: MaybeLine,

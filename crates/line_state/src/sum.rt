@@ -6,7 +6,7 @@ const LARGEST: i64 = 0x7fff_ffff_ffff_ffff;
 
 const LEAST: i64 = -0x8000_0000_0000_0000;
 
-#[derive(Drop)]
+#[derive(Clone, Copy)]
 pub enum Sum {
     Is(i64),
     Outside,

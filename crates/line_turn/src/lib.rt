@@ -1,4 +1,6 @@
 // What one annotation does to the state of a line program (docs/LINES.md).
+#![tactic(auto)]
+
 ghost use Rattle.std.specs.Prelude.{◌≡◌};
 ghost use Rattle.annotations.specs.Annotation.{annotation_of};
 ghost use Rattle.line_changes.specs.Inner.{turned_in};

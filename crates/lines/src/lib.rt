@@ -1,6 +1,8 @@
 // Runs a line program: from annotation bytes to line records (docs/LINES.md). It stands on what the decoder promises.
 //
 // refusal.rt: why a program is refused. run.rt: the two passes over the annotations.
+#![tactic(auto)]
+
 mod refusal;
 mod run;
 

@@ -4,7 +4,7 @@ ghost use Rattle.lines.specs.Promises.{refusal_in, place_or0};
 
 use numbers::PlacedRefusal;
 
-#[derive(Drop)]
+#[derive(Clone, Copy)]
 pub enum Refusal {
     // 7, 8 or 9: the decoder's refusal, with its place.
     Annotation(PlacedRefusal),

@@ -15,14 +15,14 @@ use line_turn::turn;
 // Of so many records, and more, 64 bits cannot say how many entries they need.
 const TOO_MANY: usize = 0x2000_0000_0000_0000;
 
-#[derive(Drop)]
+#[derive(Clone, Copy)]
 pub enum Ran {
     // How many records there are.
     Count(usize),
     Refused(Refusal),
 }
 
-#[derive(Drop)]
+#[derive(Clone, Copy)]
 pub(crate) enum Counted {
     Lines(usize),
     Refused(Refusal),

@@ -3,6 +3,8 @@
 // specs/Runs.antt: annotations run one after the other, and when each answer comes. specs/Statements.antt: no second
 // answer, how many records there are, what their lengths are, what the answer depends on, what every state satisfies,
 // and the ends of the range. specs/Cases.antt: programs and their records.
+#![tactic(auto)]
+
 ghost use Rattle.lines_statements.specs.Runs.{RunExactly};
 ghost use Rattle.lines_statements.specs.Statements.{Told, SingleValued, AsMany, Lengths, OnlyThePromise};
 ghost use Rattle.lines_statements.specs.Statements.{Bounded, Ends};

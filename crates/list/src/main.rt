@@ -1,5 +1,7 @@
 // Lists the container on standard input: which streams it holds. The library judges the file and makes the lines; this
 // program prints them.
+#![tactic(auto)]
+
 use libc::{STDIN_FILENO, STDOUT_FILENO};
 use listing::{INPUT_LIMIT, ListRefusal, Listed, Place};
 

@@ -2,6 +2,8 @@
 //
 // place.rt: places in a listing. This file: the two operations. Below them stand the crates `listing_text`, the bytes
 // of lines; `listing_whole`, whether a file is listed; `listing_line`, what a stream's line shows.
+#![tactic(auto)]
+
 mod place;
 
 ghost use Rattle.std.specs.Prelude.{◌+◌, ◌≤◌, length};
@@ -21,13 +23,13 @@ use place::{line_of, place_of};
 use store::put;
 
 // Whole lines: how many bytes they have, and where the listing goes on.
-#[derive(Drop)]
+#[derive(Clone, Copy)]
 pub struct Part {
     pub bytes: usize,
     pub next: Place,
 }
 
-#[derive(Drop)]
+#[derive(Clone, Copy)]
 pub enum Listed {
     Part(Part),
     Refused(ListRefusal),

@@ -4,7 +4,7 @@ ghost use Rattle.listing.specs.Listing.{line_of, place_of};
 
 use paged::{StreamNumber, least};
 
-#[derive(Drop)]
+#[derive(Clone, Copy)]
 pub enum Place {
     Head,
     Stream(StreamNumber),

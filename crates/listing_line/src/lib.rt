@@ -1,6 +1,8 @@
 // A line of the listing, for crate `listing`. A stream's line shows the answer of mapping it whole, without a store.
 // The count of pages before it is carried from line to line: adding up the earlier sizes anew for each line would take
 // the square of their number.
+#![tactic(auto)]
+
 ghost use Rattle.std.specs.Prelude.{◌≡◌, ◌+◌, ◌-◌, ◌≤◌, ◌<◌, length};
 ghost use Rattle.parse_buffer.specs.Bytes.{byte_at};
 ghost use Rattle.stream.specs.Inner.{Before};
@@ -17,13 +19,13 @@ use slices::count_slices;
 use stream::{ABSENT, Present, Sought, find_after, pages_before, pages_of};
 
 // A stream's size, and how many slices it has.
-#[derive(Drop)]
+#[derive(Clone, Copy)]
 struct Shown {
     pub size: u32,
     pub slices: usize,
 }
 
-#[derive(Drop)]
+#[derive(Clone, Copy)]
 enum Line {
     Stream(Shown),
     Absent,

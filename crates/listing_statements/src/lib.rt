@@ -3,6 +3,8 @@
 // specs/Statements.antt: no second answer, numbers in decimal, calls of `list` that make the whole. specs/Lines.antt:
 // what a stream's line says, and that an absent stream is not shown as an empty one. specs/Cases.antt: the listing of
 // document 01's file F. The one function does nothing: with it the check fails if a proof goes missing.
+#![tactic(auto)]
+
 ghost use Rattle.std.specs.Prelude.{ℕ};
 ghost use Rattle.parse_buffer.specs.Bytes.{File};
 ghost use Rattle.listing_statements.specs.Statements.{Told, SingleValued, Decimal, InParts};

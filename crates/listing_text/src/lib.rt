@@ -1,5 +1,7 @@
 // The bytes of the listing's lines, put one after another into a lent text, for the crates of the listing. Each
 // function starts at a place and returns the place after what it put. The caller guarantees room for the longest.
+#![tactic(auto)]
+
 ghost use Rattle.std.specs.Prelude.{◌+◌, ◌≤◌, length};
 ghost use Rattle.store.specs.Putting.{Putting};
 ghost use Rattle.listing_text.specs.Text.{decimal, head_text, stream_text, size_text, absent_text, refusal_text};

@@ -2,6 +2,8 @@
 // does not hold all sizes, 11 for streams.
 //
 // refusal.rt: why a file is not listed at all. This file: judging that, for the crates of the listing.
+#![tactic(auto)]
+
 mod refusal;
 
 ghost use Rattle.std.specs.Prelude.{◌≡◌, length};
@@ -14,13 +16,13 @@ use paged::{Refusal, directory_word};
 pub use refusal::{INPUT_LIMIT, ListRefusal, STREAM_LIMIT};
 
 // What a file that is listed has: a directory that holds its count and all sizes.
-#[derive(Drop)]
+#[derive(Clone, Copy)]
 pub struct Listable {
     pub header: Header,
     pub count: u32,
 }
 
-#[derive(Drop)]
+#[derive(Clone, Copy)]
 pub enum Judged {
     Listable(Listable),
     Refused(ListRefusal),

@@ -9,7 +9,7 @@ pub const INPUT_LIMIT: usize = 65536;
 
 pub const STREAM_LIMIT: u32 = 4096;
 
-#[derive(Drop)]
+#[derive(Clone, Copy)]
 pub enum ListRefusal {
     Container(Refusal),
     // The file has more bytes, or more streams, than this.

@@ -3,6 +3,8 @@
 // slices of what was judged to two lent stores.
 //
 // `fit`, the part of `judge` that is about room, and `write_judged` take any extent, not only a stream's.
+#![tactic(auto)]
+
 ghost use Rattle.std.specs.Prelude.{min, length};
 ghost use Rattle.parse_buffer.specs.Bytes.{byte_at};
 ghost use Rattle.extent.specs.Inner.{Sound};
@@ -13,13 +15,13 @@ use paged::{Refusal, StreamNumber};
 use slices::{count_slices, write_slices};
 
 // How many slices there are, and how many bytes they have.
-#[derive(Drop)]
+#[derive(Clone, Copy)]
 pub struct Mapped {
     pub slices: usize,
     pub length: usize,
 }
 
-#[derive(Drop)]
+#[derive(Clone, Copy)]
 pub enum Mapping {
     Mapped(Mapped),
     Refused(Refusal),

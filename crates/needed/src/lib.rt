@@ -3,6 +3,8 @@
 //
 // To answer a stage, `needed_to_map` reads the header block and the parts of the stages before it. Whether the part
 // itself is in the file is not asked: `stream_count` and `map` refuse it with 6.
+#![tactic(auto)]
+
 ghost use Rattle.std.specs.Prelude.{length};
 ghost use Rattle.parse_buffer.specs.Bytes.{byte_at};
 ghost use Rattle.needed.specs.Inner.{Parting};
@@ -15,7 +17,7 @@ use header::{Headed, locate};
 use mapping::{Mapping, fit, write_judged};
 use paged::{Pages, least, pages_needed_to_store};
 
-#[derive(Drop)]
+#[derive(Clone, Copy)]
 pub enum Stage {
     LocationList,
     Directory,

@@ -4,6 +4,8 @@
 // specs/Isolation.antt: demand 3. specs/Prefix.antt: mapping and the stream count need no more of the file than the
 // parts, and not its length. specs/Cases.antt: file F.
 
+#![tactic(auto)]
+
 ghost use Rattle.std.specs.Prelude.{ℕ, List};
 ghost use Rattle.parse_buffer.specs.Bytes.{File};
 ghost use Rattle.needed.specs.declared.Stage.{Stage};

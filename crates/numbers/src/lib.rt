@@ -2,6 +2,8 @@
 //
 // refusal.rt: why a number or a step is refused. form.rt: how many bytes a number takes, its value, and whether fewer
 // would do. number.rt: the number at a place.
+#![tactic(auto)]
+
 mod form;
 mod number;
 mod refusal;

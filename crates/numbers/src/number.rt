@@ -6,7 +6,7 @@ use crate::form::{is_shortest, value_at, why_at, width_at};
 use crate::refusal::PlacedRefusal;
 
 // A number that was read, the place after it, how many bytes it took, and whether no form of it is shorter.
-#[derive(Drop)]
+#[derive(Clone, Copy)]
 pub struct Number {
     pub value: u32,
     pub next: usize,
@@ -15,7 +15,7 @@ pub struct Number {
 }
 
 // The number at a place, or why there is none.
-#[derive(Drop)]
+#[derive(Clone, Copy)]
 pub enum Uncompressed {
     Value(Number),
     Refused(PlacedRefusal),

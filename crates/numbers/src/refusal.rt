@@ -2,7 +2,7 @@
 ghost use Rattle.std.specs.Prelude.{◌≡◌};
 ghost use Rattle.numbers.specs.Refusal.{refusal_in};
 
-#[derive(Drop)]
+#[derive(Clone, Copy)]
 pub enum Refusal {
     // A number reaches past the bytes.
     ShortData,
@@ -13,7 +13,7 @@ pub enum Refusal {
 }
 
 // A refusal, and the place after it.
-#[derive(Drop)]
+#[derive(Clone, Copy)]
 pub struct PlacedRefusal {
     pub refusal: Refusal,
     pub place: usize,

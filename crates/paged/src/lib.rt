@@ -4,6 +4,8 @@
 // refusal.rt: the container's refusals, and page and stream numbers. size.rt: all arithmetic with the page size.
 // pages.rt: where the words of the location list and of the directory stand, and which page numbers pass. Crate `runs`
 // above reads the page numbers.
+#![tactic(auto)]
+
 mod pages;
 mod refusal;
 mod size;

@@ -13,7 +13,7 @@ use parse_buffer::word_at;
 pub const FIRST_ENTRY: usize = 52;
 
 // Which pages: of the location list, of the directory, or of a stream whose first entry is this word of the directory.
-#[derive(Drop)]
+#[derive(Clone, Copy)]
 pub enum Pages {
     Location,
     Directory,

@@ -2,19 +2,21 @@
 //
 // A reader here is the lent bytes and a place. `word_at` is total: a byte past the end counts as 0, as `byte_at` of
 // specs/Bytes.antt has it, so that what is read never depends on who checked a length first.
+#![tactic(auto)]
+
 ghost use Rattle.std.specs.Prelude.{◌≡◌, ◌+◌, ◌-◌, ◌*◌, ◌^◌, ◌<◌, ◌≤◌, leb, length, take, drop};
 ghost use Rattle.parse_buffer.specs.Bytes.{byte_at, word};
 ghost use Rattle.parse_buffer.specs.Parse.{Parsing, Taking, InPlace};
 
 // A number that was read, and the place after it.
-#[derive(Drop)]
+#[derive(Clone, Copy)]
 pub struct Word {
     pub value: u32,
     pub next: usize,
 }
 
 // The number at a place, or refusal 7.
-#[derive(Drop)]
+#[derive(Clone, Copy)]
 pub enum Parsed {
     Value(Word),
     ShortData,

@@ -4,6 +4,8 @@
 //
 // Use `step_at` with plain bytes and a place, and the reader where one value must be passed around. `next_at` goes
 // through the reader and has plain parameters, so its callers need no walk.
+#![tactic(auto)]
+
 ghost use Rattle.std.specs.Prelude.{◌≡◌};
 ghost use Rattle.annotations.specs.Promises.{step_in};
 ghost use Rattle.reader.specs.Place.{place_after};
@@ -12,14 +14,14 @@ ghost use Rattle.reader.specs.Statements.{SingleValued, StaysAtTheEnd, Calling};
 
 use annotations::Step;
 
-#[derive(Drop)]
+#[derive(Clone, Copy)]
 pub struct BinaryAnnotationsIter<'a> {
     bytes: &'a [u8],
     at: usize,
 }
 
 // A step's answer, and the reader's place after it.
-#[derive(Drop)]
+#[derive(Clone, Copy)]
 pub struct Moved {
     pub step: Step,
     pub place: usize,

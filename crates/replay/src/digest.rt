@@ -4,7 +4,7 @@ const PRIME: u64 = 4294967291;
 
 const HALF: u64 = 0x100000000;
 
-#[derive(Drop)]
+#[derive(Clone, Copy)]
 pub struct Digest {
     pub a: u64,
     pub b: u64,

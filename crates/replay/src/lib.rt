@@ -2,6 +2,8 @@
 // `tests/differential/README.md` has the lists' formats.
 //
 // digest.rt: the digest. number.rt: a record's numbers. tally.rt: the tally, and how a program reports it.
+#![tactic(auto)]
+
 mod digest;
 mod number;
 mod tally;

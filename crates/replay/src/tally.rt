@@ -2,7 +2,7 @@
 use libc::STDOUT_FILENO;
 
 // Whether there is more to read.
-#[derive(Drop)]
+#[derive(Clone, Copy)]
 pub enum Next {
     Record,
     Ended,
@@ -10,7 +10,7 @@ pub enum Next {
     Bad,
 }
 
-#[derive(Drop)]
+#[derive(Clone, Copy)]
 pub struct Tally {
     pub next: Next,
     pub records: u64,

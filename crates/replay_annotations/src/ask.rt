@@ -28,7 +28,7 @@ const READER_DIFFERS: u64 = 9;
 const NO_ROOM_REFUSAL: u64 = 10;
 
 // What a record asks: a place, and the sizes of the stores.
-#[derive(Drop)]
+#[derive(Clone, Copy)]
 pub struct Question {
     pub at: usize,
     pub low: usize,
@@ -53,7 +53,7 @@ fn number(d: Digest, bytes: &[u8], at: usize) -> Digest {
 }
 
 // How far the steps have come.
-#[derive(Drop)]
+#[derive(Clone, Copy)]
 struct Walk {
     digest: Digest,
     at: usize,

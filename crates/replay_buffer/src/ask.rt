@@ -15,7 +15,7 @@ const NOT_THERE: u64 = 24;
 const SHORT_DATA: u64 = 7;
 
 // What a record asks: the places, and the lengths to take at each.
-#[derive(Drop)]
+#[derive(Clone, Copy)]
 pub struct Question {
     pub first: usize,
     pub last: usize,

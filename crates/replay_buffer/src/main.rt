@@ -2,6 +2,8 @@
 // digest of the Rust's answers. Writes how many strings were asked and how many records differ.
 //
 // ask.rt: one question to the library. record.rt: a record's header. This file: the run.
+#![tactic(auto)]
+
 mod ask;
 mod record;
 

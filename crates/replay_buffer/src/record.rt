@@ -2,7 +2,7 @@
 use crate::ask::Question;
 use replay::{Digest, half, word};
 
-#[derive(Drop)]
+#[derive(Clone, Copy)]
 pub struct Header {
     // How many bytes follow.
     pub length: usize,

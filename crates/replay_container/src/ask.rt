@@ -10,7 +10,7 @@ const REFUSED: u64 = 42;
 const WORD: u64 = 0x100000000;
 
 // What a record asks: the page size, and the sizes of the stores.
-#[derive(Drop)]
+#[derive(Clone, Copy)]
 pub struct Question {
     pub page_size: u32,
     pub low: usize,

@@ -2,6 +2,8 @@
 // the answers that `tests/differential` reckoned. Writes how many streams were asked about and how many records differ.
 //
 // ask.rt: one question to the library. record.rt: a record's header and sizes. This file: the run.
+#![tactic(auto)]
+
 mod ask;
 mod record;
 

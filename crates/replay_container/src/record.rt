@@ -24,7 +24,7 @@ const TOO_MANY: usize = usize::MAX;
 
 const WORD: u64 = 0x100000000;
 
-#[derive(Drop)]
+#[derive(Clone, Copy)]
 pub struct Header {
     // How many runs follow.
     pub runs: usize,

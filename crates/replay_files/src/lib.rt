@@ -1,5 +1,7 @@
 // The files that a list asks about. A file is made of another one and of runs: a place of four bytes, a count of two,
 // and so many bytes to put there.
+#![tactic(auto)]
+
 ghost use Rattle.std.specs.Prelude.{◌+◌, ◌≤◌, length};
 
 use replay::{half, word};

@@ -10,7 +10,7 @@ const REFUSED: u64 = 52;
 const REFUSED_NOWHERE: u64 = 53;
 
 // What a record asks: the sizes of the stores.
-#[derive(Drop)]
+#[derive(Clone, Copy)]
 pub struct Question {
     pub low: usize,
     pub high: usize,

@@ -2,6 +2,8 @@
 // answers that `tests/differential` reckoned. Writes how many programs were run and how many records differ.
 //
 // ask.rt: one question to the library. record.rt: a record's header. This file: the run.
+#![tactic(auto)]
+
 mod ask;
 mod record;
 

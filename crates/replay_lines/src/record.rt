@@ -9,7 +9,7 @@ pub const LONGEST: usize = 4096;
 // The most entries of a store: one more than the records of so many bytes take. Each has at least two bytes.
 pub const LARGEST_ROOM: usize = LONGEST / 2 * ENTRIES_EACH + 1;
 
-#[derive(Drop)]
+#[derive(Clone, Copy)]
 pub struct Header {
     // How many bytes follow.
     pub length: usize,

@@ -4,6 +4,8 @@
 //
 // record.rt: a record's header. This file: the run. The crate `replay_questions` asks the library, and `replay_files`
 // makes the files.
+#![tactic(auto)]
+
 mod record;
 
 use libc::STDIN_FILENO;
@@ -12,7 +14,7 @@ use replay::{Digest, Next, Tally};
 use replay_questions::{Question, answer};
 
 // What a record came to.
-#[derive(Drop)]
+#[derive(Clone, Copy)]
 enum Replayed {
     // So many questions, and whether the answers are the Rust's.
     Asked(u64, bool),

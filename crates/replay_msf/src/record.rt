@@ -17,7 +17,7 @@ const MOST_BYTES: usize = 131072;
 
 const WORD: u64 = 0x100000000;
 
-#[derive(Drop)]
+#[derive(Clone, Copy)]
 pub struct Header {
     // How many bytes follow.
     pub body: usize,
@@ -32,7 +32,7 @@ pub struct Header {
 }
 
 // The question is asked with each value from the first to the last in the byte at a place, or once.
-#[derive(Drop)]
+#[derive(Clone, Copy)]
 pub struct Sweep {
     pub on: bool,
     pub at: usize,
@@ -40,7 +40,7 @@ pub struct Sweep {
     pub last: u64,
 }
 
-#[derive(Drop)]
+#[derive(Clone, Copy)]
 pub enum Reading {
     Header(Header),
     // The list ends here.

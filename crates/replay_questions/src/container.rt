@@ -32,7 +32,7 @@ const PATHS_DIFFER: u64 = 99;
 const MOST_ENTRIES: usize = 1024;
 
 // What the slices are of: a stream up to a limit, or a part that mapping reads.
-#[derive(Drop)]
+#[derive(Clone, Copy)]
 enum Whole {
     Stream(StreamNumber, Limit),
     Part(Stage),

@@ -5,6 +5,8 @@
 //
 // container.rt: all but the listing. lines.rt: the listing. stores.rt: what the stores begin as, and how they are mixed
 // into the digest. This file: the question.
+#![tactic(auto)]
+
 mod container;
 mod lines;
 mod stores;
@@ -17,7 +19,7 @@ use needed::Stage;
 use replay::Digest;
 
 // What a record asks: which operations, of which stream, up to which limit, with stores of which lengths.
-#[derive(Drop)]
+#[derive(Clone, Copy)]
 pub struct Question {
     pub open: bool,
     pub count: bool,

@@ -10,7 +10,7 @@ const LISTED: u64 = 19;
 const LIST_REFUSED: u64 = 20;
 
 // What was answered so far, and whether and where the listing goes on.
-#[derive(Drop)]
+#[derive(Clone, Copy)]
 struct Turn {
     digest: Digest,
     more: bool,

@@ -1,5 +1,7 @@
 // Mapping by its second path, for the program that replays: into a slice store, whose entries are then laid out in two
 // number stores, so that both paths are asked and answered alike.
+#![tactic(auto)]
+
 ghost use Rattle.std.specs.Prelude.{◌≤◌, length};
 
 use msf::{Limit, Mapping, Refusal, StreamNumber};
@@ -9,13 +11,13 @@ use slice_store::{SourceSlice, map_into};
 // No question asks for a longer store.
 const MOST_ENTRIES: usize = 1024;
 
-#[derive(Drop)]
+#[derive(Clone, Copy)]
 struct Entries {
     slices: [SourceSlice; 1024],
 }
 
 // The answer, and the entries after it.
-#[derive(Drop)]
+#[derive(Clone, Copy)]
 struct Stored {
     answer: Mapping,
     slices: [SourceSlice; 1024],

@@ -8,7 +8,7 @@ const WRITTEN: u64 = 31;
 const REFUSED: u64 = 32;
 
 // What a record asks: the sizes of the stores.
-#[derive(Drop)]
+#[derive(Clone, Copy)]
 pub struct Question {
     pub low: usize,
     pub high: usize,

@@ -3,6 +3,8 @@
 // differ.
 //
 // ask.rt: one question to the library. record.rt: a record's header and numbers. This file: the run.
+#![tactic(auto)]
+
 mod ask;
 mod record;
 

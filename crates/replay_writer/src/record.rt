@@ -16,7 +16,7 @@ const HALF: u64 = 0x100000000;
 // The first number that has its highest bit set.
 const NEGATIVE: u64 = 0x8000000000000000;
 
-#[derive(Drop)]
+#[derive(Clone, Copy)]
 pub struct Header {
     // How many numbers follow.
     pub length: usize,

@@ -2,6 +2,8 @@
 // is looked up once, and its words are read one after the other.
 //
 // This file: runs, and the two checks that each list meets. stretch.rt: page numbers that go up by one.
+#![tactic(auto)]
+
 mod stretch;
 
 ghost use Rattle.std.specs.Prelude.{◌≡◌, ◌+◌, ◌*◌, ◌^◌, ◌<◌, ◌≤◌, length};
@@ -19,14 +21,14 @@ use paged::{
 use parse_buffer::word_in;
 pub use stretch::{Stretch, before_first, next_stretch};
 
-#[derive(Drop)]
+#[derive(Clone, Copy)]
 pub enum Checked {
     Fine,
     Refused(Refusal),
 }
 
 // Entries that stand one after the other: where they begin in the file, and how many there are.
-#[derive(Drop)]
+#[derive(Clone, Copy)]
 pub struct Run {
     pub at: usize,
     pub words: usize,

@@ -10,7 +10,7 @@ use crate::{Run, run_of};
 use paged::{PageNumber, Pages};
 use parse_buffer::word_in;
 
-#[derive(Drop)]
+#[derive(Clone, Copy)]
 pub struct Stretch {
     // The first page, and how many there are.
     pub page: PageNumber,

@@ -1,4 +1,6 @@
 // Numbers in their shortest form: the bytes from which `numbers` reads them back, as few as can be.
+#![tactic(auto)]
+
 ghost use Rattle.std.specs.Prelude.{◌≡◌, ◌+◌, ◌^◌, ◌≤◌, ◌<◌, length};
 ghost use Rattle.store.specs.Putting.{Putting};
 ghost use Rattle.shortest.specs.Short.{short};

@@ -2,6 +2,8 @@
 // was decoded gives the very bytes again.
 //
 // specs/Statements.antt: a number. specs/Rewriting.antt: a whole program.
+#![tactic(auto)]
+
 ghost use Rattle.shortest_statements.specs.Statements.{Taken, ShortestExactly};
 ghost use Rattle.shortest_statements.specs.Rewriting.{Rewriting};
 

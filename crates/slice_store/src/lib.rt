@@ -3,6 +3,8 @@
 //
 // Every decision is made by value: `begin` says where the writing starts, `step` which entry the next stretch of pages
 // changes, and to what, and `answer` what to say in the end. Only `map_into` touches the store.
+#![tactic(auto)]
+
 ghost use Rattle.std.specs.Prelude.{◌≡◌, length};
 ghost use Rattle.parse_buffer.specs.Bytes.{byte_at};
 ghost use Rattle.slice_store.specs.Inner.{no_bytes, to_write, Starts, Ready, Stepping, answer_in};
@@ -18,7 +20,7 @@ use slices::{Walk, extend};
 
 // Where the writing stands: what is to be written, the stretch of its pages that was read last, and the walk over the
 // pages up to the end of that stretch.
-#[derive(Drop)]
+#[derive(Clone, Copy)]
 struct Cursor {
     extent: Extent,
     stretch: Stretch,
@@ -26,7 +28,7 @@ struct Cursor {
 }
 
 // One stretch more: an entry of the store, what it is now, and where the writing stands after it.
-#[derive(Drop)]
+#[derive(Clone, Copy)]
 struct Stepped {
     at: usize,
     slice: SourceSlice,

@@ -4,6 +4,8 @@
 //
 // `count_slices` counts, `write_slices` writes two lent stores. A caller with another kind of store uses `begin` and
 // `extend`.
+#![tactic(auto)]
+
 ghost use Rattle.std.specs.Prelude.{◌≡◌, ◌-◌, ◌<◌, ◌≤◌, length, set};
 ghost use Rattle.parse_buffer.specs.Bytes.{byte_at};
 ghost use Rattle.extent.specs.Inner.{Extends, EntriesLie};
@@ -14,7 +16,7 @@ use paged::{PageNumber, span_of};
 use runs::{Stretch, before_first, next_stretch};
 
 // An offset and a size in the file.
-#[derive(Drop)]
+#[derive(Clone, Copy)]
 pub struct SourceSlice {
     pub offset: u64,
     pub size: usize,
@@ -22,7 +24,7 @@ pub struct SourceSlice {
 
 // Where a walk stands: how many slices there are so far, the page that would lengthen the last of them, and that slice
 // as far as it reaches.
-#[derive(Drop)]
+#[derive(Clone, Copy)]
 pub struct Walk {
     pub count: usize,
     pub after: usize,

@@ -1,4 +1,6 @@
 // Putting a run of bytes into a lent store. A caller that appends run after run keeps the place that `put` returns.
+#![tactic(auto)]
+
 ghost use Rattle.std.specs.Prelude.{◌+◌, ◌≤◌, length};
 ghost use Rattle.store.specs.Putting.{Putting};
 

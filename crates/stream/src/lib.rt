@@ -1,4 +1,6 @@
 // Finding a stream in the directory, step 7: its size, and where its own page numbers stand.
+#![tactic(auto)]
+
 ghost use Rattle.std.specs.Prelude.{◌≡◌, ◌+◌, ◌*◌, ◌^◌, ◌<◌, ◌≤◌, length};
 ghost use Rattle.parse_buffer.specs.Bytes.{byte_at};
 ghost use Rattle.paged.specs.PageSize.{PageSize};
@@ -17,28 +19,28 @@ use runs::{Checked, check_pages, run_of};
 pub const ABSENT: u32 = 0xffffffff;
 
 // A stream found: its size, and which word of the directory is its first page number.
-#[derive(Drop)]
+#[derive(Clone, Copy)]
 pub struct Found {
     pub header: Header,
     pub size: u32,
     pub first: usize,
 }
 
-#[derive(Drop)]
+#[derive(Clone, Copy)]
 pub enum Sought {
     Found(Found),
     Refused(Refusal),
 }
 
 // A stream that is present: the stream count, and its own size.
-#[derive(Drop)]
+#[derive(Clone, Copy)]
 pub struct Present {
     pub header: Header,
     pub count: u32,
     pub size: u32,
 }
 
-#[derive(Drop)]
+#[derive(Clone, Copy)]
 pub enum Presence {
     Present(Present),
     Refused(Refusal),

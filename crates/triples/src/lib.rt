@@ -1,6 +1,8 @@
 // The three numbers that say an annotation: opcode, first, second or 0. They are made at once, by the kind of
 // operand, with no variant in between. Each reading of an operand is computed and one is picked: the compiler makes
 // no branch of that, and no processor can foresee the opcode.
+#![tactic(auto)]
+
 ghost use Rattle.std.specs.Prelude.{◌≡◌, cond};
 ghost use Rattle.annotations.specs.Signed.{signed_of};
 ghost use Rattle.annotations.specs.Annotation.{annotation_of};

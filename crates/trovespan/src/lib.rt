@@ -9,6 +9,8 @@
 //
 // A static library exports the functions of its own crate alone. So each function here only calls the one that it is
 // named after, which makes the same promise.
+#![tactic(auto)]
+
 ghost use Rattle.std.specs.Prelude.{length};
 ghost use Rattle.parse_buffer.specs.Bytes.{byte_at};
 ghost use Rattle.container_crossing.specs.Flags.{limit_of, stage_of};

@@ -1,5 +1,7 @@
 // What crosses of the writers: each as a function that returns a number, and writes the length to the number that it is
 // lent. `trovespan` exports these.
+#![tactic(auto)]
+
 ghost use Rattle.writers_crossing.specs.Promises.{Writes, Packs};
 ghost use Rattle.writers_crossing.specs.Statements.{SingleValued};
 
