@@ -1,9 +1,9 @@
 /*
  * trovespan.h: reads and writes the container of PDB files (MSF) and binary annotations, with a proved library.
  *
- * Link with libtrovespan.a, which `rt staticlib trovespan` makes in target/staticlib. It is code for x86-64 Linux. It calls
- * the C library's memset, which the compiler puts where zeros are written, and nothing else. It allocates nothing, and keeps
- * no pointer and no state, so any number of threads may call it.
+ * Link with libtrovespan.a, which `rt lib` in crates/trovespan makes in its out/. It is code for x86-64 Linux (x86-64-v2). It
+ * calls the C library's memmove and memset, which the compiler puts where bytes are copied and zeros are written, and nothing
+ * else. It allocates nothing, and keeps no pointer and no state, so any number of threads may call it.
  *
  * Each function returns 0, or the number of a refusal, for any input. Its other results go to the numbers that it is lent,
  * all of which it sets. On a refusal `value` is the refusal's value, and a number that has nothing to say is 0.

@@ -2,8 +2,8 @@
 //!
 //! 1. the one in the folder that `TROVESPAN_LIB_DIR` names;
 //! 2. the one in `lib/`, which the archive that `dist` makes has and the repository does not;
-//! 3. the repository's own, `target/staticlib/libtrovespan.a`. Proves and builds it with `rt staticlib trovespan` if
-//!    it is missing, or not what was built from these sources. That is judged by content, not by date.
+//! 3. the repository's own, `target/staticlib/libtrovespan.a`. Proves and builds it with `rt lib` in `crates/trovespan`
+//!    if it is missing, or not what was built from these sources. That is judged by content, not by date.
 //!
 //! Nothing is proved in the first two cases, and nothing is written outside the folder that cargo gives this script.
 
@@ -25,6 +25,9 @@ const GIVEN: &str = "TROVESPAN_LIB_DIR";
 /// The repository, relative to the package's folder, where cargo runs this. Cargo keeps the compiled script and its
 /// output; with relative paths both stay valid if the tree is moved.
 const ROOT: &str = "..";
+
+/// The crate that the library is built of.
+const CRATE: &str = "../crates/trovespan";
 
 fn main() {
     println!("cargo:rerun-if-changed=build.rs");
@@ -90,6 +93,7 @@ fn proved(folder: &Path) -> Vec<u8> {
         }
     }
     build();
+    take(&Path::new(CRATE).join("out").join(LIBRARY), &archive);
     let library = read(&archive);
     date_as(&archive, &Path::new(ROOT).join("crates.txt"));
     // If the note cannot be written, the next run builds again.
@@ -111,7 +115,12 @@ fn sources() -> Vec<PathBuf> {
 /// The crate trovespan and all that it is over, directly or through others. A name without a line is a library of the
 /// toolchain.
 fn crates_of(list: &str) -> Vec<&str> {
-    let needs = |name: &str| list.lines().find_map(|line| line.strip_prefix(name)?.strip_prefix(':'));
+    let needs = |name: &str| {
+        list.lines().find_map(|line| {
+            let rest = line.strip_prefix(name)?;
+            rest.strip_prefix(" staticlib").unwrap_or(rest).strip_prefix(':')
+        })
+    };
     if needs("trovespan").is_none() {
         stop("crates.txt does not name trovespan");
     }
@@ -145,16 +154,16 @@ fn files(path: &Path) -> Vec<PathBuf> {
 fn build() {
     eprintln!("trovespan: proving and building the library, which takes some minutes the first time");
     let began = Instant::now();
-    let said = Command::new("rt").args(["staticlib", "trovespan"]).current_dir(ROOT).output();
+    let said = Command::new("rt").arg("lib").current_dir(CRATE).output();
     match said {
         Ok(said) if said.status.success() => println!(
-            "cargo:warning=proved and built the library with `rt staticlib trovespan`, {} s; this is done again only \
+            "cargo:warning=proved and built the library with `rt lib`, {} s; this is done again only \
              if its sources change",
             began.elapsed().as_secs()
         ),
         Ok(said) => {
             eprint!("{}{}", String::from_utf8_lossy(&said.stdout), String::from_utf8_lossy(&said.stderr));
-            stop("`rt staticlib trovespan` failed, and said the above")
+            stop("`rt lib` failed, and said the above")
         }
         Err(e) => stop(&format!(
             "target/staticlib/{LIBRARY} is missing or not built from these sources, and `rt`, the command of the Rattle \
@@ -162,6 +171,12 @@ fn build() {
              folder of a library that is built already"
         )),
     }
+}
+
+/// Copies what was built to where it is kept.
+fn take(built: &Path, archive: &Path) {
+    let copied = archive.parent().map_or(Ok(()), fs::create_dir_all).and_then(|()| fs::copy(built, archive));
+    copied.unwrap_or_else(|e| stop(&format!("{} could not be copied to {}: {e}", built.display(), archive.display())));
 }
 
 /// Dates the library as one of its sources. Otherwise cargo takes it for a change made after this script, and runs the

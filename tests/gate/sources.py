@@ -18,7 +18,7 @@ def crate_names():
     return sorted(path.name for path in CRATES.iterdir() if path.is_dir())
 
 
-# ---- functions. This relies on the layout that `rt fmt --check` checks: a clause begins a line, and so does the body's brace.
+# ---- functions. This relies on the layout that `rt ci` checks: a clause begins a line, and so does the body's brace.
 
 def clauses(head, word):
     """The clauses that begin with a word, each with its continuation lines."""
@@ -70,13 +70,13 @@ def functions():
 
 def promises(function, name):
     """Whether a clause is this promise, or says that the result is this definition, without a premise."""
-    promise = re.compile(rf'ensures {{ λ \w+\. ⌜ (?:\w+ ≡ )?{re.escape(name)} [^→]*$')
+    promise = re.compile(rf'ensures(?: \w+)? {{ (?:result ≡ )?\(?{re.escape(name)} [^→]*$')
     return any(promise.match(clause) for clause in function.ensures)
 
 
 def statements_of(function):
     """The statements that a `proved` promises: each without a premise, and for all values of its binders."""
-    statement = re.compile(r'ensures { λ r\. ⌜ (?:\((?:\([^():]+ : [^():]+\) )+→ )?([^\s()→]+)[^→]* ⌝ }')
+    statement = re.compile(r'ensures(?: \w+)? { (?:(?:\([^():]+ : [^():]+\) )+→ )?([^\s()→]+)[^→]* }')
     for clause in function.ensures:
         found = statement.match(clause)
         yield found.group(1) if found else clause.strip()
@@ -91,7 +91,7 @@ def edits():
 
 def expected(path):
     """Where an edit says that it must be refused: a file and a declaration."""
-    found = re.findall(r'^expect: (\S+) (\S+)$', read(path), re.M)
+    found = re.findall(r'^# expect: (\S+) (\S+)$', read(path), re.M)
     return found[0] if len(found) == 1 else None
 
 

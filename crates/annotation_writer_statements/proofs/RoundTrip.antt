@@ -18,6 +18,7 @@ use Rattle.annotations.specs.declared.annotation.Triple.{Triple}
 use Rattle.decode.specs.Decode as decode
 use Rattle.decode.specs.Decode.{decode_all, triple_entries, entries, decoded_entries, decoding}
 use Rattle.annotations_statements.proofs.Statements.{decode_exactly}
+use Rattle.annotation_records.specs.Operands.{annotation_bytes}
 use Rattle.annotation_records.specs.Records.{entries_each, count, record_at}
 use Rattle.annotation_records.proofs.RangeLaws.{can_be_written}
 use Rattle.annotation_writer.specs.Refusal.{refusal_in}
@@ -111,7 +112,9 @@ flat_append (x ∷ xs) ys = rw (flat_append xs ys)
 entries_flat : (at : ℕ) (ts : List Triple) → entries (standing at ts) ≡ with_ones (flat ts) (length ts)
 unfolding entries standing flat with_ones
 entries_flat at [] = refl
-entries_flat at (t ∷ later) = rw (entries_flat _ later)
+entries_flat at (t ∷ later) =
+    let rest = entries_flat (at + length (annotation_bytes t)) later in
+    ap (λ (l : List ℤ). triple_entries t ++ pos 1 ∷ l) rest
 
 -- three entries more
 take_three : (l : List ℤ) (j : ℕ) → j + 2 < length l → take (suc (suc (suc j))) l ≡ take j l ++ (get_or l j (pos 0) ∷ get_or l (j + 1) (pos 0) ∷ get_or l (j + 2) (pos 0) ∷ [])
@@ -131,7 +134,7 @@ flat_list list a (suc k) l =
 standing_length : (at : ℕ) (ts : List Triple) → length (standing at ts) ≡ length ts
 unfolding standing
 standing_length at [] = refl
-standing_length at (t ∷ later) = ap suc (standing_length _ later)
+standing_length at (t ∷ later) = ap suc (standing_length (at + length (annotation_bytes t)) later)
 
 listed_length : (list : List ℤ) (k : ℕ) → length (annotations_in list k) ≡ k
 unfolding annotations_in

@@ -20,14 +20,14 @@ use Rattle.isolation.proofs.NamedExactly.{stream_byte_lem}
 use Rattle.isolation.proofs.Stages.{Stage, stage}
 
 module _ (f : File) (len i : ℕ) where
-  opened_in : ListedOpen f len i → (i < len) ⊎ (i < 48)
-  opened_in (ListedOpen.start l) = inr (omega arith)
-  opened_in (ListedOpen.fields l m) = inr (omega arith)
-  opened_in (ListedOpen.small e l m) = inr (omega arith)
-  opened_in (ListedOpen.locations o l w) = let long = headed_long f len o in inl (omega (arith, w.1))
+  opened_within : ListedOpen f len i → (i < len) ⊎ (i < 48)
+  opened_within (ListedOpen.start l) = inr (omega arith)
+  opened_within (ListedOpen.fields l m) = inr (omega arith)
+  opened_within (ListedOpen.small e l m) = inr (omega arith)
+  opened_within (ListedOpen.locations o l w) = let long = headed_long f len o in inl (omega (arith, w.1))
 
   staged_in : Stage f len i → (i < len) ⊎ (i < 48)
-  staged_in (Stage.opening l) = opened_in l
+  staged_in (Stage.opening l) = opened_within l
   staged_in (Stage.entry {j} {h} o lies l w) =
       let s = (is_located f len o).size in
       let least = s.least in

@@ -40,6 +40,7 @@ pub record ByteOf (xs : List SourceSlice) (i : ℕ) : Type 0 where
 
 pub byte_of : (xs : List SourceSlice) (i : ℕ) → Named xs i → ByteOf xs i
 unfolding total place_of
+byte_of [] i x' = elim x' [ ]
 byte_of (s ∷ rest) i (Named.here l m) =
     let low : i - s.offset < s.size = omega arith in
     record {

@@ -164,6 +164,7 @@ off_one range {a} {b} i l m c x y = go (leb range.1 a) refl c
 
 off : (ranges : List (ℕ × ℕ)) {a b : ℕ} (i : ℕ) → a ≤ i → i < b → clear ranges a b ≡ true → Within ranges i → ⊥
 unfolding clear
+off [] {a = a} {b = b} i l m c x4 = elim x4 [ ]
 off (range ∷ rest) {a} {b} i l m c (inl x) = off_one range i l m (and_true (apart range a b) (clear rest a b) c).0 x.0 x.1
 off (range ∷ rest) {a} {b} i l m c (inr x) = off rest i l m (and_true (apart range a b) (clear rest a b) c).1 x
 

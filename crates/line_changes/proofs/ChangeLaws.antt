@@ -18,7 +18,7 @@ use Rattle.line_state.specs.Sum.{sum_in}
 use Rattle.line_changes.specs.Inner.{closing}
 use Rattle.line_state.specs.declared.state.Position.{Position}
 use Rattle.line_state.specs.declared.state.Length.{Length}
-use Rattle.line_state.specs.declared.state.Length.TheVariants as length
+use Rattle.line_state.specs.declared.state.Length.TheVariants as length_case
 use Rattle.line_state.specs.declared.state.Line.{Line}
 use Rattle.line_state.specs.declared.state.MaybeLine.{MaybeLine}
 use Rattle.line_state.specs.declared.state.MaybeLine.TheVariants as maybe
@@ -37,16 +37,16 @@ module _ (s : State) (to : ℕ) {last : MaybeLine} where
   close_none e = rw e
 
   module _ {l : Line} (e : last ≡ maybe.Some l) where
-    pub close_set : {n : ℕ} → l.length ≡ length.Bytes n → closes s (maybe.Some l) ≡ closing last s to
+    pub close_set : {n : ℕ} → l.length ≡ length_case.Bytes n → closes s (maybe.Some l) ≡ closing last s to
     unfolding closing closed settled ◌>>=◌
     close_set f = rw (e, f)
 
-    module _ (f : l.length ≡ length.None) {from : ℕ} (g : from ≡ offset_of l.at) where
+    module _ (f : l.length ≡ length_case.None) {from : ℕ} (g : from ≡ offset_of l.at) where
       pub close_falling : to < from → refused tt ≡ closing last s to
       unfolding closing closed settled ◌>>=◌ ◌>>◌ require
       close_falling h = rw (e, f, lt-leb (offset_of l.at) to (rw g at h))
 
-      pub close_due : from ≤ to → closes s (maybe.Some (line_at l.at (length.Bytes (to - from)))) ≡ closing last s to
+      pub close_due : from ≤ to → closes s (maybe.Some (line_at l.at (length_case.Bytes (to - from)))) ≡ closing last s to
       unfolding closing closed settled ◌>>=◌ ◌>>◌ require
       close_due h = rw (e, f, le-leb (offset_of l.at) to (rw g at h), g)
 
@@ -70,7 +70,7 @@ module _ (p : Position) (n : ℕ) {last : MaybeLine} where
   unfolding lengthening
   length_none e = rw e
 
-  pub length_set : {l : Line} → last ≡ maybe.Some l → {x : OrBad After} → x ≡ after p (maybe.Some (line_at l.at (length.Bytes n))) maybe.None → x ≡ lengthening p last n
+  pub length_set : {l : Line} → last ≡ maybe.Some l → {x : OrBad After} → x ≡ after p (maybe.Some (line_at l.at (length_case.Bytes n))) maybe.None → x ≡ lengthening p last n
   unfolding lengthening
   length_set e f = f ∙ rw e
 
@@ -83,7 +83,7 @@ read by = to_z w32 (of_z w32 by)
 module _ (z by : ℤ) (m : mag z < 2 ^ 63) (n : mag by < 2 ^ 31) {y : ℤ} (d : y ≡ read by) {x : OrBad ℤ} (f : x ≡ summed (kept z) (kept y)) where
   sum_is : x ≡ summed z by
   sum_is =
-      let e : y ≡ by = d ∙ to_z-of_z (record { sfits = n }) in
+      let e : y ≡ by = d ∙ to_z-of_z {w = w32} (record { sfits = n }) in
       let k : mag y < 2 ^ 63 = rw e (omega arith) in
       rw (stored {z = z} m, stored {z = y} k, e) at f
 
@@ -105,7 +105,7 @@ module _ (p : Position) (last : MaybeLine) (by : ℤ) (n : mag by < 2 ^ 31) {y :
       unfolding advancing_line ◌>>=◌
       line_moves h = h ∙ rw (line_is, e, g, stored {z = z} l)
 
-      pub line_emits : (v : ℕ) {x : OrBad After} → x ≡ emission last (with_code q (q.code + v)) length.None → x ≡ emission_on_line last p v by
+      pub line_emits : (v : ℕ) {x : OrBad After} → x ≡ emission last (with_code q (q.code + v)) length_case.None → x ≡ emission_on_line last p v by
       unfolding emission_on_line ◌>>=◌
       line_emits v h = h ∙ rw (line_is, e, g, stored {z = z} l)
 

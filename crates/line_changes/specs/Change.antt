@@ -5,7 +5,7 @@ use Rattle.line_state.specs.State.{offset_of, with_code, with_line, with_end}
 use Rattle.line_state.specs.Sum.{OrBad, summed}
 use Rattle.line_state.specs.declared.state.Position.{Position}
 use Rattle.line_state.specs.declared.state.Length.{Length}
-use Rattle.line_state.specs.declared.state.Length.TheVariants as length
+use Rattle.line_state.specs.declared.state.Length.TheVariants as length_case
 use Rattle.line_state.specs.declared.state.Line.{Line}
 use Rattle.line_state.specs.declared.state.MaybeLine.{MaybeLine}
 use Rattle.line_state.specs.declared.state.MaybeLine.TheVariants as maybe
@@ -20,8 +20,8 @@ line_at p n = record { at = p; length = n }
 -- "An emission closes the previous record, if that has no length, with the difference of offsets": a length that is set
 -- stays. "A falling offset where a length is due" is refused
 unfoldable pub settled : Position → Length → ℕ → OrBad Length
-settled from (length.Bytes n) to = ok (length.Bytes n)
-settled from length.None to = require (leb (offset_of from) to) tt >> ok (length.Bytes (to - offset_of from))
+settled from (length_case.Bytes n) to = ok (length_case.Bytes n)
+settled from length_case.None to = require (leb (offset_of from) to) tt >> ok (length_case.Bytes (to - offset_of from))
 
 unfoldable pub closed : MaybeLine → ℕ → OrBad MaybeLine
 closed maybe.None to = ok maybe.None
@@ -39,7 +39,7 @@ emission last p own = do
 -- "4 sets the previous record's length", whether that has one or not; "4 before any emission" is refused
 unfoldable pub lengthening : Position → MaybeLine → ℕ → OrBad After
 lengthening p maybe.None n = refused tt
-lengthening p (maybe.Some l) n = after p (maybe.Some (line_at l.at (length.Bytes n))) maybe.None
+lengthening p (maybe.Some l) n = after p (maybe.Some (line_at l.at (length_case.Bytes n))) maybe.None
 
 unfoldable pub advancing_line : Position → MaybeLine → ℤ → OrBad After
 advancing_line p last by = summed p.line by >>= λ z. after (with_line p z) last maybe.None
@@ -49,4 +49,4 @@ advancing_end p last by = summed p.end by >>= λ z. after (with_end p z) last ma
 
 unfoldable pub emission_on_line : MaybeLine → Position → ℕ → ℤ → OrBad After
 emission_on_line last p v by =
-    summed p.line by >>= λ z. emission last (with_code (with_line p z) (p.code + v)) length.None
+    summed p.line by >>= λ z. emission last (with_code (with_line p z) (p.code + v)) length_case.None

@@ -15,7 +15,7 @@ use Rattle.annotations.proofs.AnnotationLaws.{stored}
 use Rattle.line_state.proofs.SumLaws.{kept}
 use Rattle.line_state.specs.State.{offset_of}
 use Rattle.line_state.specs.declared.state.Length.{Length}
-use Rattle.line_state.specs.declared.state.Length.TheVariants as length
+use Rattle.line_state.specs.declared.state.Length.TheVariants as length_case
 use Rattle.line_state.specs.declared.state.Line.{Line}
 use Rattle.line_state.specs.declared.state.MaybeLine.{MaybeLine}
 use Rattle.line_state.specs.declared.state.MaybeLine.TheVariants as maybe
@@ -24,10 +24,10 @@ use Rattle.line_entries.specs.Inner.{Appending}
 
 -- ---- `entry_of`
 module _ {n : Length} where
-  pub entry_none : n ≡ length.None → negsuc 0 ≡ length_entry n
+  pub entry_none : n ≡ length_case.None → negsuc 0 ≡ length_entry n
   entry_none e = rw e
 
-  pub entry_bytes : {b : ℕ} → n ≡ length.Bytes b → {z : ℤ} → z ≡ pos b → mag z < 2 ^ 63 → kept z ≡ length_entry n
+  pub entry_bytes : {b : ℕ} → n ≡ length_case.Bytes b → {z : ℤ} → z ≡ pos b → mag z < 2 ^ 63 → kept z ≡ length_entry n
   entry_bytes e f m = rw (stored m, f, e)
 
 pub ruleset entry_cases = (entry_none, entry_bytes)

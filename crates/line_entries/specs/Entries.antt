@@ -2,7 +2,7 @@
 use Rattle.std.specs.Prelude.{ℕ, List, [], ◌∷◌, ◌++◌, ℤ, pos, negsuc}
 use Rattle.line_state.specs.State.{offset_of}
 use Rattle.line_state.specs.declared.state.Length.{Length}
-use Rattle.line_state.specs.declared.state.Length.TheVariants as length
+use Rattle.line_state.specs.declared.state.Length.TheVariants as length_case
 use Rattle.line_state.specs.declared.state.Line.{Line}
 use Rattle.line_state.specs.declared.state.MaybeLine.{MaybeLine}
 use Rattle.line_state.specs.declared.state.MaybeLine.TheVariants as maybe
@@ -17,8 +17,8 @@ abbrev pub entries_each : ℕ
 entries_each = 8
 
 abbrev pub length_entry : Length → ℤ
-length_entry length.None = negsuc 0
-length_entry (length.Bytes n) = pos n
+length_entry length_case.None = negsuc 0
+length_entry (length_case.Bytes n) = pos n
 
 abbrev pub line_entries : Line → List ℤ
 line_entries l =

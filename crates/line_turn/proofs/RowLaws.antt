@@ -4,6 +4,7 @@ use Prim.Native.Nat.{ℕ, zero, suc, ◌+◌, ◌/◌, ◌%◌, ◌^◌, ◌<◌
 use borrow.Author.Tests.{ne_eqb}
 use lib.IntN.{ℤ, pos}
 use lib.Signed.{mag}
+use mir.Syntax.{w32}
 use mir.Facts.{to_z-of_z}
 use Rattle.outcome.specs.Outcome.{refused}
 use Rattle.annotations.specs.Signed.{signed_of}
@@ -16,7 +17,7 @@ use Rattle.line_state.specs.Sum.{OrBad}
 use Rattle.line_changes.specs.Change.{after, emission, lengthening, advancing_line, advancing_end, emission_on_line}
 use Rattle.line_turn.specs.Turn.{turning}
 use Rattle.line_state.specs.declared.state.Position.{Position}
-use Rattle.line_state.specs.declared.state.Length.TheVariants as length
+use Rattle.line_state.specs.declared.state.Length.TheVariants as length_case
 use Rattle.line_state.specs.declared.state.MaybeLine.TheVariants as maybe
 use Rattle.line_state.specs.declared.state.State.{State}
 use Rattle.line_changes.specs.declared.After.{After}
@@ -34,7 +35,7 @@ module _ (s : State) (v w : ℕ) where
   unfolding turning annotation_of
   row_2 = refl
 
-  pub row_3 : emission s.last (with_code s.at (s.at.code + v)) length.None ≡ turning s (annotation_of 3 v w)
+  pub row_3 : emission s.last (with_code s.at (s.at.code + v)) length_case.None ≡ turning s (annotation_of 3 v w)
   unfolding turning annotation_of
   row_3 = refl
 
@@ -70,7 +71,7 @@ module _ (s : State) (v w : ℕ) where
   unfolding turning annotation_of
   row_11 = refl
 
-  pub row_12 : emission s.last (with_code s.at (s.at.code + w)) (length.Bytes v) ≡ turning s (annotation_of 12 v w)
+  pub row_12 : emission s.last (with_code s.at (s.at.code + w)) (length_case.Bytes v) ≡ turning s (annotation_of 12 v w)
   unfolding turning annotation_of
   row_12 = refl
 
@@ -111,7 +112,7 @@ module _ (s : State) (v w : ℕ) {op : ℕ} {x : OrBad After} where
 
 -- the operand of 6, 10 or 11 is read back from its bits, and so is the column of 13
 is_read : {z : ℤ} → mag z < 2 ^ 31 → read z ≡ z
-is_read h = to_z-of_z (record { sfits = h })
+is_read h = to_z-of_z {w = w32} (record { sfits = h })
 
 module _ (s : State) (v w : ℕ) {op : ℕ} {x : OrBad After} {z : ℤ} where
   module _ (h : mag z < 2 ^ 31) where

@@ -6,7 +6,7 @@ use Rattle.annotations.specs.declared.annotation.Triple.{Triple}
 use Rattle.line_state.specs.State.{with_code, with_base, with_file, with_count, with_kind, with_start, with_end}
 use Rattle.line_state.specs.Sum.{OrBad}
 use Rattle.line_state.specs.declared.state.Position.{Position}
-use Rattle.line_state.specs.declared.state.Length.TheVariants as length
+use Rattle.line_state.specs.declared.state.Length.TheVariants as length_case
 use Rattle.line_state.specs.declared.state.MaybeLine.{MaybeLine}
 use Rattle.line_state.specs.declared.state.MaybeLine.TheVariants as maybe
 use Rattle.line_state.specs.declared.state.State.{State}
@@ -24,7 +24,7 @@ turning s t =
     (refused tt
     ∷ after (with_code p v) last maybe.None
     ∷ after (with_base p v) last maybe.None
-    ∷ emission last (with_code p (p.code + v)) length.None
+    ∷ emission last (with_code p (p.code + v)) length_case.None
     ∷ lengthening p last v
     ∷ after (with_file p v) last maybe.None
     ∷ advancing_line p last t.first
@@ -33,7 +33,7 @@ turning s t =
     ∷ after (with_start p v) last maybe.None
     ∷ advancing_end p last t.first
     ∷ emission_on_line last p v t.second
-    ∷ emission last (with_code p (p.code + w)) (length.Bytes v)
+    ∷ emission last (with_code p (p.code + w)) (length_case.Bytes v)
     ∷ after (with_end p (pos v)) last maybe.None
     ∷ [])
     t.opcode (refused tt)

@@ -19,7 +19,7 @@ use Rattle.line_changes.specs.Change.{after, line_at, settled, closed, emission,
 use Rattle.line_turn.specs.Turn.{turning}
 use Rattle.line_state.specs.declared.state.Position.{Position}
 use Rattle.line_state.specs.declared.state.Length.{Length}
-use Rattle.line_state.specs.declared.state.Length.TheVariants as length
+use Rattle.line_state.specs.declared.state.Length.TheVariants as length_case
 use Rattle.line_state.specs.declared.state.Line.{Line}
 use Rattle.line_state.specs.declared.state.MaybeLine.{MaybeLine}
 use Rattle.line_state.specs.declared.state.MaybeLine.TheVariants as maybe
@@ -59,18 +59,18 @@ advances z by k h = go (summed z by) refl
     go (refused tt) e = leaves_none
 
 -- a record that is closed, or that is emitted, is bounded
-settled_small : (from : Position) (n : Length) (to : ℕ) {m : Length} → settled from n to ≡ ok m → to < 2 ^ 32 → ((k : ℕ) → n ≡ length.Bytes k → k < 2 ^ 32) → (k : ℕ) → m ≡ length.Bytes k → k < 2 ^ 32
-settled_small from (length.Bytes j) to e t h k f =
-    let same : length.Bytes j ≡ length.Bytes k = sym (settled_set from (length.Bytes j) to j e refl) ∙ f in
+settled_small : (from : Position) (n : Length) (to : ℕ) {m : Length} → settled from n to ≡ ok m → to < 2 ^ 32 → ((k : ℕ) → n ≡ length_case.Bytes k → k < 2 ^ 32) → (k : ℕ) → m ≡ length_case.Bytes k → k < 2 ^ 32
+settled_small from (length_case.Bytes j) to e t h k f =
+    let same : length_case.Bytes j ≡ length_case.Bytes k = sym (settled_set from (length_case.Bytes j) to j e refl) ∙ f in
     let is : j ≡ k = cc in
     rw is at (h j refl)
-settled_small from length.None to e t h k f =
-    let d = settled_due from length.None to e refl in
-    let same : length.Bytes (to - offset_of from) ≡ length.Bytes k = sym d.1 ∙ f in
+settled_small from length_case.None to e t h k f =
+    let d = settled_due from length_case.None to e refl in
+    let same : length_case.Bytes (to - offset_of from) ≡ length_case.Bytes k = sym d.1 ∙ f in
     let is : to - offset_of from ≡ k = cc in
     omega arith
 
-module _ (p : Position) (own : Length) (b : BoundedPosition p) (small : (n : ℕ) → own ≡ length.Bytes n → n < 2 ^ 32) (t : offset_of p < 2 ^ 32) where
+module _ (p : Position) (own : Length) (b : BoundedPosition p) (small : (n : ℕ) → own ≡ length_case.Bytes n → n < 2 ^ 32) (t : offset_of p < 2 ^ 32) where
   emitted_state : BoundedState (record { at = p; last = maybe.Some (line_at p own) })
   emitted_state =
       record { at = b; last = λ l e. rw (← some_is e) (record { at = b; offset = t; length = small }) }
@@ -88,7 +88,7 @@ module _ (p : Position) (own : Length) (b : BoundedPosition p) (small : (n : ℕ
   closes_last (maybe.Some l) h = closes_line l (h l refl) (settled l.at l.length (offset_of p)) refl
 
 -- (the code offset is bounded by the offset)
-emits : (last : MaybeLine) (p : Position) (own : Length) → (p.code < 2 ^ 32 → BoundedPosition p) → ((n : ℕ) → own ≡ length.Bytes n → n < 2 ^ 32) → ((l : Line) → last ≡ maybe.Some l → BoundedLine l) → Leaves (emission last p own)
+emits : (last : MaybeLine) (p : Position) (own : Length) → (p.code < 2 ^ 32 → BoundedPosition p) → ((n : ℕ) → own ≡ length_case.Bytes n → n < 2 ^ 32) → ((l : Line) → last ≡ maybe.Some l → BoundedLine l) → Leaves (emission last p own)
 unfolding emission ◌>>◌ require
 emits last p own b small h = go (ltb (offset_of p) (2 ^ 32)) refl
   where
@@ -102,7 +102,7 @@ sets : (p : Position) (last : MaybeLine) (n : ℕ) → n < 2 ^ 32 → BoundedPos
 unfolding lengthening
 sets p maybe.None n t b h = leaves_none
 sets p (maybe.Some l) n t b h =
-    quiet p (maybe.Some (line_at l.at (length.Bytes n))) b (λ m e. rw (← some_is e) (record { at = (h l refl).at; offset = (h l refl).offset; length = λ k f. let is : n ≡ k = cc in rw is at t }))
+    quiet p (maybe.Some (line_at l.at (length_case.Bytes n))) b (λ m e. rw (← some_is e) (record { at = (h l refl).at; offset = (h l refl).offset; length = λ k f. let is : n ≡ k = cc in rw is at t }))
 
 -- ---- every row
 module _ (s : State) (b : BoundedState s) (first second : ℤ) (h : (nat_abs first < 2 ^ 29) × (nat_abs second < 2 ^ 29)) where
@@ -127,10 +127,10 @@ module _ (s : State) (b : BoundedState s) (first second : ℤ) (h : (nat_abs fir
   at_code r k c t =
       record { code = t; base = k.base; file = k.file; line = k.line; count = k.count; kind = k.kind; start = k.start; end = k.end }
 
-  no_length : (n : ℕ) → length.None ≡ length.Bytes n → n < 2 ^ 32
+  no_length : (n : ℕ) → length_case.None ≡ length_case.Bytes n → n < 2 ^ 32
   no_length n e = let z : ◌≡◌ {A = ℕ} 0 1 = cc in omega arith
 
-  own_length_lem : (n : ℕ) → length.Bytes (nat_abs first) ≡ length.Bytes n → n < 2 ^ 32
+  own_length_lem : (n : ℕ) → length_case.Bytes (nat_abs first) ≡ length_case.Bytes n → n < 2 ^ 32
   own_length_lem n e = let is : nat_abs first ≡ n = cc in let k = h.0 in omega arith
 
   row : (op : ℕ) → Leaves (turning s (triple op first second))
@@ -139,7 +139,7 @@ module _ (s : State) (b : BoundedState s) (first second : ℤ) (h : (nat_abs fir
   row (suc zero) = plain _ (at_code p q (nat_abs first) (omega (arith, h.0)))
   row (suc (suc zero)) =
       plain _ (record { code = q.code; base = h.0; file = q.file; line = q.line; count = q.count; kind = q.kind; start = q.start; end = q.end })
-  row (suc (suc (suc zero))) = emits s.last _ length.None (at_code p q (p.code + nat_abs first)) no_length b.last
+  row (suc (suc (suc zero))) = emits s.last _ length_case.None (at_code p q (p.code + nat_abs first)) no_length b.last
   row (suc (suc (suc (suc zero)))) = sets p s.last (nat_abs first) (omega (arith, h.0)) q b.last
   row (suc (suc (suc (suc (suc zero))))) =
       plain _ (record { code = q.code; base = q.base; file = h.0; line = q.line; count = q.count; kind = q.kind; start = q.start; end = q.end })
@@ -152,9 +152,9 @@ module _ (s : State) (b : BoundedState s) (first second : ℤ) (h : (nat_abs fir
       plain _ (record { code = q.code; base = q.base; file = q.file; line = q.line; count = q.count; kind = q.kind; start = h.0; end = q.end })
   row (suc (suc (suc (suc (suc (suc (suc (suc (suc (suc zero)))))))))) = advances p.end first _ (λ z m. plain _ (with_end_lem z m))
   row (suc (suc (suc (suc (suc (suc (suc (suc (suc (suc (suc zero))))))))))) =
-      advances p.line second _ (λ z m. emits s.last _ length.None (at_code (with_line p z) (with_line_lem z m) (p.code + nat_abs first)) no_length b.last)
+      advances p.line second _ (λ z m. emits s.last _ length_case.None (at_code (with_line p z) (with_line_lem z m) (p.code + nat_abs first)) no_length b.last)
   row (suc (suc (suc (suc (suc (suc (suc (suc (suc (suc (suc (suc zero)))))))))))) =
-      emits s.last _ (length.Bytes (nat_abs first)) (at_code p q (p.code + nat_abs second)) own_length_lem b.last
+      emits s.last _ (length_case.Bytes (nat_abs first)) (at_code p q (p.code + nat_abs second)) own_length_lem b.last
   row (suc (suc (suc (suc (suc (suc (suc (suc (suc (suc (suc (suc (suc zero))))))))))))) =
       plain _ (with_end_lem (pos (nat_abs first)) (omega (arith, h.0)))
   row (suc (suc (suc (suc (suc (suc (suc (suc (suc (suc (suc (suc (suc (suc n)))))))))))))) = leaves_none

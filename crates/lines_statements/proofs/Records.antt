@@ -19,7 +19,7 @@ use Rattle.line_changes.specs.Change.{line_at, settled}
 use Rattle.line_turn.specs.Turn.{turning}
 use Rattle.line_state.specs.declared.state.Position.{Position}
 use Rattle.line_state.specs.declared.state.Length.{Length}
-use Rattle.line_state.specs.declared.state.Length.TheVariants as length
+use Rattle.line_state.specs.declared.state.Length.TheVariants as length_case
 use Rattle.line_state.specs.declared.state.Line.{Line}
 use Rattle.line_state.specs.declared.state.MaybeLine.{MaybeLine}
 use Rattle.line_state.specs.declared.state.MaybeLine.TheVariants as maybe
@@ -63,18 +63,18 @@ as_many =
     }
 
 -- ---- every record that is closed has a length
-pub settled_bytes : (from : Position) (n : Length) (to : ℕ) {m : Length} → settled from n to ≡ ok m → (k : ℕ) × (m ≡ length.Bytes k)
+pub settled_bytes : (from : Position) (n : Length) (to : ℕ) {m : Length} → settled from n to ≡ ok m → (k : ℕ) × (m ≡ length_case.Bytes k)
 unfolding settled ◌>>◌ require
-settled_bytes from (length.Bytes k) to e = (k, ok_is (sym e))
-settled_bytes from length.None to e = go (leb (offset_of from) to) e
+settled_bytes from (length_case.Bytes k) to e = (k, ok_is (sym e))
+settled_bytes from length_case.None to e = go (leb (offset_of from) to) e
   where
-    go : (b : Bool) {m : Length} → ◌≡◌ {A = OrBad Length} (require b tt >> ok (length.Bytes (to - offset_of from))) (ok m) → (k : ℕ) × (m ≡ length.Bytes k)
+    go : (b : Bool) {m : Length} → ◌≡◌ {A = OrBad Length} (require b tt >> ok (length_case.Bytes (to - offset_of from))) (ok m) → (k : ℕ) × (m ≡ length_case.Bytes k)
     go true f = (to - offset_of from, ok_is (sym f))
     go false f = absurd (ok_refused (sym f))
 
 -- all of these have one
 abbrev Lengthy : List Line → Type 0
-Lengthy l = (i : ℕ) → i < length l → (n : ℕ) × ((line_of l i).length ≡ length.Bytes n)
+Lengthy l = (i : ℕ) → i < length l → (n : ℕ) × ((line_of l i).length ≡ length_case.Bytes n)
 
 closed_lengthy : {last : MaybeLine} {op : ℕ} {first : ℤ} {o : OrBad After} → Kind last op first o → {a : After} → o ≡ ok a → (m : List Line) → Lengthy m → Lengthy (listed a.closed ++ m)
 closed_lengthy bad e m h = absurd (ok_refused (sym e))
@@ -83,7 +83,7 @@ closed_lengthy (sets p f g) e m h = rw (← ok_is e) h
 closed_lengthy (begins p f g) e m h = rw (← ok_is e) h
 closed_lengthy (closes p {l} {n} f g k) e m h = rw (← ok_is e) (go (settled_bytes l.at l.length (offset_of p) k) h)
   where
-    go : (k : ℕ) × (n ≡ length.Bytes k) → Lengthy m → Lengthy (line_at l.at n ∷ m)
+    go : (k : ℕ) × (n ≡ length_case.Bytes k) → Lengthy m → Lengthy (line_at l.at n ∷ m)
     go b h zero i = b
     go b h (suc j) i = h j (omega arith)
 
@@ -109,19 +109,19 @@ record Fate (l : Line) (later : List PlacedTriple) (all : List Line) : Type 0 wh
   others : List Line
   is : all ≡ first ∷ others
   at : first.at ≡ l.at
-  set : (n : ℕ) → given l.length later ≡ length.Bytes n → first.length ≡ length.Bytes n
-  due : given l.length later ≡ length.None → (r : Line) (after : List Line) → others ≡ r ∷ after → (offset_of l.at ≤ offset_of r.at) × (first.length ≡ length.Bytes (offset_of r.at - offset_of l.at))
-  left : given l.length later ≡ length.None → others ≡ [] → first.length ≡ length.None
+  set : (n : ℕ) → given l.length later ≡ length_case.Bytes n → first.length ≡ length_case.Bytes n
+  due : given l.length later ≡ length_case.None → (r : Line) (after : List Line) → others ≡ r ∷ after → (offset_of l.at ≤ offset_of r.at) × (first.length ≡ length_case.Bytes (offset_of r.at - offset_of l.at))
+  left : given l.length later ≡ length_case.None → others ≡ [] → first.length ≡ length_case.None
 
-pub settled_set : (from : Position) (n : Length) (to : ℕ) {m : Length} (k : ℕ) → settled from n to ≡ ok m → n ≡ length.Bytes k → m ≡ length.Bytes k
+pub settled_set : (from : Position) (n : Length) (to : ℕ) {m : Length} (k : ℕ) → settled from n to ≡ ok m → n ≡ length_case.Bytes k → m ≡ length_case.Bytes k
 unfolding settled
 settled_set from n to k e f = ok_is (sym (rw f at e))
 
-pub settled_due : (from : Position) (n : Length) (to : ℕ) {m : Length} → settled from n to ≡ ok m → n ≡ length.None → (offset_of from ≤ to) × (m ≡ length.Bytes (to - offset_of from))
+pub settled_due : (from : Position) (n : Length) (to : ℕ) {m : Length} → settled from n to ≡ ok m → n ≡ length_case.None → (offset_of from ≤ to) × (m ≡ length_case.Bytes (to - offset_of from))
 unfolding settled ◌>>◌ require
 settled_due from n to {m} e f = go (leb (offset_of from) to) refl (rw f at e)
   where
-    go : (b : Bool) → leb (offset_of from) to ≡ b → ◌≡◌ {A = OrBad Length} (require b tt >> ok (length.Bytes (to - offset_of from))) (ok m) → (offset_of from ≤ to) × (m ≡ length.Bytes (to - offset_of from))
+    go : (b : Bool) → leb (offset_of from) to ≡ b → ◌≡◌ {A = OrBad Length} (require b tt >> ok (length_case.Bytes (to - offset_of from))) (ok m) → (offset_of from ≤ to) × (m ≡ length_case.Bytes (to - offset_of from))
     go true t g = (leb-true (offset_of from) to t, ok_is (sym g))
     go false t g = absurd (ok_refused (sym g))
 
@@ -166,7 +166,7 @@ turn_fate l x later (leaves p f n) g {a} e all h =
 turn_fate l x later (sets p {l = m} f k) g {a} e all h =
     let same : m ≡ l = some_is (sym k ∙ g) in
     let quiet : listed a.closed ++ all ≡ all = rw (← ok_is e) in
-    rw quiet (quiet_fate l (line_at l.at (length.Bytes (nat_abs x.triple.first))) x later refl (rw f) (h _ (rw (← ok_is e, same))))
+    rw quiet (quiet_fate l (line_at l.at (length_case.Bytes (nat_abs x.triple.first))) x later refl (rw f) (h _ (rw (← ok_is e, same))))
 turn_fate l x later (begins p f k) g e all h = absurd (some_none (sym g ∙ k))
 turn_fate l x later (closes p {l = m} {n} f k s) g {a} e all h =
     let same : m ≡ l = some_is (sym k ∙ g) in
@@ -300,14 +300,14 @@ module _ (before later : List PlacedTriple) (x : PlacedTriple) (lines : List Lin
   here =
       ap (λ (n : ℕ). line_of lines n) (sym d.many) ∙ ap (λ (l : List Line). line_of l (length d.front)) all ∙ record_at_lem d.front b.first b.others
 
-  due : (o : List Line) → b.others ≡ o → given (own_length x.triple) later ≡ length.None → suc i < length lines → (offset_of (line_of lines i).at ≤ offset_of (line_of lines (suc i)).at) × ((line_of lines i).length ≡ length.Bytes (offset_of (line_of lines (suc i)).at - offset_of (line_of lines i).at))
+  due : (o : List Line) → b.others ≡ o → given (own_length x.triple) later ≡ length_case.None → suc i < length lines → (offset_of (line_of lines i).at ≤ offset_of (line_of lines (suc i)).at) × ((line_of lines i).length ≡ length_case.Bytes (offset_of (line_of lines (suc i)).at - offset_of (line_of lines i).at))
   due [] o g h = absurd (omega (arith, long, ap length o))
   due (r ∷ after) o g h =
       let next : line_of lines (suc i) ≡ r = ap (λ (n : ℕ). line_of lines (suc n)) (sym d.many) ∙ ap (λ (l : List Line). line_of l (suc (length d.front))) all ∙ record_after d.front b.first b.others r after o in
       let place : offset_of (line_of lines i).at ≡ offset_of d.place = ap (λ (l : Line). offset_of l.at) here ∙ ap offset_of b.at in
       let place' : offset_of (line_of lines (suc i)).at ≡ offset_of r.at = ap (λ (l : Line). offset_of l.at) next in
       let q = b.due g r after o in
-      (omega (arith, q.0), ap (λ (l : Line). l.length) here ∙ q.1 ∙ ap length.Bytes (omega arith))
+      (omega (arith, q.0), ap (λ (l : Line). l.length) here ∙ q.1 ∙ ap length_case.Bytes (omega arith))
 
   has_length : HasLength before later x lines
   has_length =

@@ -14,7 +14,7 @@ use Rattle.line_changes.specs.Change.{after, line_at, settled, closed, emission,
 use Rattle.line_turn.specs.Turn.{turning}
 use Rattle.line_state.specs.declared.state.Position.{Position}
 use Rattle.line_state.specs.declared.state.Length.{Length}
-use Rattle.line_state.specs.declared.state.Length.TheVariants as length
+use Rattle.line_state.specs.declared.state.Length.TheVariants as length_case
 use Rattle.line_state.specs.declared.state.Line.{Line}
 use Rattle.line_state.specs.declared.state.MaybeLine.{MaybeLine}
 use Rattle.line_state.specs.declared.state.MaybeLine.TheVariants as maybe
@@ -29,12 +29,12 @@ after_of p last done = record { state = state_of p last; closed = done }
 
 -- the length that an opcode gives to the record that it emits
 abbrev pub own : ℕ → ℤ → Length
-own op first = cond (eqb op 12) (length.Bytes (nat_abs first)) length.None
+own op first = cond (eqb op 12) (length_case.Bytes (nat_abs first)) length_case.None
 
 pub data Kind (last : MaybeLine) (op : ℕ) (first : ℤ) : OrBad After → Type 0 where
   bad : Kind last op first (refused tt)
   leaves : (p : Position) → emits op ≡ false → (op ≡ 4 → ⊥) → Kind last op first (ok (after_of p last maybe.None))
-  sets : (p : Position) {l : Line} → op ≡ 4 → last ≡ maybe.Some l → Kind last op first (ok (after_of p (maybe.Some (line_at l.at (length.Bytes (nat_abs first)))) maybe.None))
+  sets : (p : Position) {l : Line} → op ≡ 4 → last ≡ maybe.Some l → Kind last op first (ok (after_of p (maybe.Some (line_at l.at (length_case.Bytes (nat_abs first)))) maybe.None))
   begins : (p : Position) → emits op ≡ true → last ≡ maybe.None → Kind last op first (ok (after_of p (maybe.Some (line_at p (own op first))) maybe.None))
   closes : (p : Position) {l : Line} {n : Length} → emits op ≡ true → last ≡ maybe.Some l → settled l.at l.length (offset_of p) ≡ ok n → Kind last op first (ok (after_of p (maybe.Some (line_at p (own op first))) (maybe.Some (line_at l.at n))))
 
@@ -92,7 +92,7 @@ module _ (s : State) (first second : ℤ) where
   turn_kind (suc (suc (suc (suc (suc (suc (suc (suc (suc (suc zero)))))))))) =
       summed_kind (summed s.at.end first) (λ z. after (with_end s.at z) s.last maybe.None) (λ z. leaves _ refl (λ e. omega arith))
   turn_kind (suc (suc (suc (suc (suc (suc (suc (suc (suc (suc (suc zero))))))))))) =
-      summed_kind (summed s.at.line second) (λ z. emission s.last (with_code (with_line s.at z) (s.at.code + nat_abs first)) length.None) (λ z. emits_kind 11 first _ refl s.last)
+      summed_kind (summed s.at.line second) (λ z. emission s.last (with_code (with_line s.at z) (s.at.code + nat_abs first)) length_case.None) (λ z. emits_kind 11 first _ refl s.last)
   turn_kind (suc (suc (suc (suc (suc (suc (suc (suc (suc (suc (suc (suc zero)))))))))))) = emits_kind 12 first _ refl s.last
   turn_kind (suc (suc (suc (suc (suc (suc (suc (suc (suc (suc (suc (suc (suc zero))))))))))))) = leaves _ refl (λ e. omega arith)
   turn_kind (suc (suc (suc (suc (suc (suc (suc (suc (suc (suc (suc (suc (suc (suc n)))))))))))))) = bad

@@ -15,7 +15,7 @@ use Rattle.line_changes.specs.Change.{line_at}
 use Rattle.line_turn.specs.Turn.{turning}
 use Rattle.line_state.specs.declared.state.Position.{Position}
 use Rattle.line_state.specs.declared.state.Length.{Length}
-use Rattle.line_state.specs.declared.state.Length.TheVariants as length
+use Rattle.line_state.specs.declared.state.Length.TheVariants as length_case
 use Rattle.line_state.specs.declared.state.Line.{Line}
 use Rattle.line_state.specs.declared.state.MaybeLine.TheVariants as maybe
 use Rattle.line_state.specs.declared.state.State.{State}
@@ -52,36 +52,36 @@ pub record AsMany : Type 0 where
 -- ---- lengths
 -- record i
 abbrev pub line_of : List Line → ℕ → Line
-line_of lines i = get_or lines i (line_at start.at length.None)
+line_of lines i = get_or lines i (line_at start.at length_case.None)
 
 -- the length that annotations give to a record: 12 gives its own one, and then each 4 before the next emission another
 abbrev pub own_length : Triple → Length
-own_length t = cond (eqb t.opcode 12) (length.Bytes (nat_abs t.first)) length.None
+own_length t = cond (eqb t.opcode 12) (length_case.Bytes (nat_abs t.first)) length_case.None
 
 unfoldable pub given : Length → List PlacedTriple → Length
 given n [] = n
 given n (x ∷ later) =
     cond (emits x.triple.opcode) n
-    (given (cond (eqb x.triple.opcode 4) (length.Bytes (nat_abs x.triple.first)) n) later)
+    (given (cond (eqb x.triple.opcode 4) (length_case.Bytes (nat_abs x.triple.first)) n) later)
 
 -- the record that x emits. As many come first as `before` emits
 pub record HasLength (before later : List PlacedTriple) (x : PlacedTriple) (lines : List Line) : Type 0 where
   -- what is given stays
-  pub set : (n : ℕ) → given (own_length x.triple) later ≡ length.Bytes n
-      → (line_of lines (emitting before)).length ≡ length.Bytes n
+  pub set : (n : ℕ) → given (own_length x.triple) later ≡ length_case.Bytes n
+      → (line_of lines (emitting before)).length ≡ length_case.Bytes n
   -- what is not given is the difference of the offsets, and the next one is not below
-  pub due : given (own_length x.triple) later ≡ length.None → suc (emitting before) < length lines
+  pub due : given (own_length x.triple) later ≡ length_case.None → suc (emitting before) < length lines
       → (offset_of (line_of lines (emitting before)).at ≤ offset_of (line_of lines (suc (emitting before))).at)
-      × ((line_of lines (emitting before)).length ≡ length.Bytes (offset_of (line_of lines (suc (emitting before))).at
+      × ((line_of lines (emitting before)).length ≡ length_case.Bytes (offset_of (line_of lines (suc (emitting before))).at
       - offset_of (line_of lines (emitting before)).at))
   -- and the last record has none then
-  pub left : given (own_length x.triple) later ≡ length.None → length lines ≡ suc (emitting before)
-      → (line_of lines (emitting before)).length ≡ length.None
+  pub left : given (own_length x.triple) later ≡ length_case.None → length lines ≡ suc (emitting before)
+      → (line_of lines (emitting before)).length ≡ length_case.None
 
 -- every record but the last has a length, and each has the length that its annotations give it or that is due
 pub record Lengths : Type 0 where
   pub each : (s : List ℕ) (room : ℕ) (lines : List Line) → running s room ≡ ok lines
-      → (i : ℕ) → suc i < length lines → (n : ℕ) × ((line_of lines i).length ≡ length.Bytes n)
+      → (i : ℕ) → suc i < length lines → (n : ℕ) × ((line_of lines i).length ≡ length_case.Bytes n)
   pub are : (before later : List PlacedTriple) (x : PlacedTriple) (lines : List Line)
       → RunsTo start (before ++ x ∷ later) lines → emits x.triple.opcode ≡ true → HasLength before later x lines
 
@@ -118,7 +118,7 @@ pub record BoundedPosition (p : Position) : Type 0 where
 pub record BoundedLine (l : Line) : Type 0 where
   pub at : BoundedPosition l.at
   pub offset : offset_of l.at < 2 ^ 32
-  pub length : (n : ℕ) → l.length ≡ length.Bytes n → n < 2 ^ 32
+  pub length : (n : ℕ) → l.length ≡ length_case.Bytes n → n < 2 ^ 32
 
 pub record BoundedState (s : State) : Type 0 where
   pub at : BoundedPosition s.at

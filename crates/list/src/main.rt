@@ -2,8 +2,12 @@
 // program prints them.
 #![tactic(auto)]
 
-use libc::{STDIN_FILENO, STDOUT_FILENO};
 use listing::{INPUT_LIMIT, ListRefusal, Listed, Place};
+
+// The numbers of standard input and output.
+const STDIN_FILENO: i32 = 0;
+
+const STDOUT_FILENO: i32 = 1;
 
 fn main() {
     let mut input = [0; 65536];

@@ -6,8 +6,8 @@
 use Prim.Native.Nat.{ℕ}
 use mathlib.Core.List.{[], ◌∷◌}
 use seplogic.Ra.Ura.{Ura}
-use seplogic.Ra.TreeShare.PosShare
-use seplogic.Ra.TreeShare.{full_share}
+use base.Share
+use base.Fraction.{full_share}
 use base.Logic.{SProp, ent, sep, wand}
 use base.Fml.{Lft, Share, flft}
 use types.Logic.{Logic}
@@ -26,20 +26,20 @@ module _ {M : Type 1} {𝓤 : Ura M} (𝓛 : Logic 𝓤) (a : ℕ) (κ : Lft) wh
   module _ (q : Share) where
     -- the way back to a's whole token
     abbrev pub Back : SProp 𝓤
-    Back = wand 𝓤 (A.lft (a ∷ []) (PosShare.left q)) (A.lft (a ∷ []) full_share)
+    Back = wand 𝓤 (A.lft (a ∷ []) (Share.left q)) (A.lft (a ∷ []) full_share)
 
     -- what the loan has of tokens while it stands
     abbrev pub Within : SProp 𝓤
-    Within = sep 𝓤 (A.lft (a ∷ κ) (PosShare.left q)) (sep 𝓤 (A.lft κ (PosShare.right q)) Back)
+    Within = sep 𝓤 (A.lft (a ∷ κ) (Share.left q)) (sep 𝓤 (A.lft κ (Share.right q)) Back)
 
     pub within : ent 𝓤 (sep 𝓤 (A.lft (a ∷ []) full_share) (A.lft κ q)) Within
     within =
-        qed 𝓛 (‵ (flft (a ∷ []) full_share) ∷ ‵ (flft κ q) ∷ []) ∵ use1 𝓛 (‵ (flft (a ∷ []) (PosShare.left q)) ⊛ raw Back) (𝓛.lfts.lft_carve a (PosShare.left q)) $ split ! $
-        move ! (2 ∷ []) $ use1 𝓛 (‵ (flft κ (PosShare.left q)) ⊛ ‵ (flft κ (PosShare.right q))) (𝓛.lfts.lft_split κ q) $ split ! $
-        move ! (2 ∷ 0 ∷ []) $ use2 𝓛 (‵ (flft (a ∷ κ) (PosShare.left q))) (𝓛.lfts.lft_meet (a ∷ []) κ (PosShare.left q)) $ done !
+        qed 𝓛 (‵ (flft (a ∷ []) full_share) ∷ ‵ (flft κ q) ∷ []) ∵ use1 𝓛 (‵ (flft (a ∷ []) (Share.left q)) ⊛ raw Back) (𝓛.lfts.lft_carve a (Share.left q)) $ split ! $
+        move ! (2 ∷ []) $ use1 𝓛 (‵ (flft κ (Share.left q)) ⊛ ‵ (flft κ (Share.right q))) (𝓛.lfts.lft_split κ q) $ split ! $
+        move ! (2 ∷ 0 ∷ []) $ use2 𝓛 (‵ (flft (a ∷ κ) (Share.left q))) (𝓛.lfts.lft_meet (a ∷ []) κ (Share.left q)) $ done !
 
     pub whole_again : ent 𝓤 Within (sep 𝓤 (A.lft (a ∷ []) full_share) (A.lft κ q))
     whole_again =
-        qed 𝓛 (‵ (flft (a ∷ κ) (PosShare.left q)) ∷ ‵ (flft κ (PosShare.right q)) ∷ raw Back ∷ []) ∵
-        use1 𝓛 (‵ (flft (a ∷ []) (PosShare.left q)) ⊛ ‵ (flft κ (PosShare.left q))) (𝓛.lfts.lft_unmeet (a ∷ []) κ (PosShare.left q)) $ split ! $
+        qed 𝓛 (‵ (flft (a ∷ κ) (Share.left q)) ∷ ‵ (flft κ (Share.right q)) ∷ raw Back ∷ []) ∵
+        use1 𝓛 (‵ (flft (a ∷ []) (Share.left q)) ⊛ ‵ (flft κ (Share.left q))) (𝓛.lfts.lft_unmeet (a ∷ []) κ (Share.left q)) $ split ! $
         move ! (1 ∷ 2 ∷ []) $ use2 𝓛 (‵ (flft κ q)) (𝓛.lfts.lft_join κ q) $ move ! (1 ∷ 2 ∷ []) $ apply ! {B = A.lft (a ∷ []) full_share} $ done !

@@ -1,9 +1,8 @@
 // The reader of binary annotations, the Rust's `BinaryAnnotationsIter`: a struct that holds the lent bytes and a place
-// in them. It calls `annotations::step_at`. The borrow checker does not cover functions over such a struct, so their
-// proofs walk the code by hand. They have no branch: `place_after`, which is covered, makes the one decision.
+// in them. It calls `annotations::step_at`. `place_after` makes the one decision.
 //
 // Use `step_at` with plain bytes and a place, and the reader where one value must be passed around. `next_at` goes
-// through the reader and has plain parameters, so its callers need no walk.
+// through the reader and has plain parameters.
 #![tactic(auto)]
 
 ghost use Rattle.std.specs.Prelude.{◌≡◌};
@@ -56,6 +55,7 @@ pub fn next_at(bytes: &[u8], at: usize) -> Moved
 }
 
 // The place after a step.
+#[tactic(auto, unfolding(crate::specs::Place::place_after, annotations::specs::Promises::step_in))]
 fn place_after(step: Step) -> usize
     ensures { result ≡ place_after (step_in step) }
 {

@@ -11,3 +11,8 @@ mod tally;
 pub use digest::Digest;
 pub use number::{half, word};
 pub use tally::{Next, Tally};
+
+// The numbers of standard input and output.
+pub const STDIN_FILENO: i32 = 0;
+
+pub const STDOUT_FILENO: i32 = 1;

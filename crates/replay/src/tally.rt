@@ -1,5 +1,5 @@
 // The tally of replayed records, and how a program reports it.
-use libc::STDOUT_FILENO;
+use crate::STDOUT_FILENO;
 
 // Whether there is more to read.
 #[derive(Clone, Copy)]

@@ -7,9 +7,8 @@
 mod ask;
 mod record;
 
-use libc::STDIN_FILENO;
 use record::{Header, LARGEST_ROOM, LONGEST};
-use replay::{Digest, Next, Tally};
+use replay::{Digest, Next, STDIN_FILENO, Tally};
 
 const LAST_BYTES: u64 = 256;
 

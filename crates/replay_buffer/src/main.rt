@@ -7,9 +7,8 @@
 mod ask;
 mod record;
 
-use libc::STDIN_FILENO;
 use record::Header;
-use replay::{Digest, Next, Tally};
+use replay::{Digest, Next, STDIN_FILENO, Tally};
 
 fn main() {
     let mut bytes = [0u8; 4096];

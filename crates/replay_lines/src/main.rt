@@ -7,9 +7,8 @@
 mod ask;
 mod record;
 
-use libc::STDIN_FILENO;
 use record::{Header, LARGEST_ROOM, LONGEST};
-use replay::{Next, Tally};
+use replay::{Next, STDIN_FILENO, Tally};
 
 fn main() {
     let mut bytes = [0u8; LONGEST];

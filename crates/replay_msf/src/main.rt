@@ -8,9 +8,8 @@
 
 mod record;
 
-use libc::STDIN_FILENO;
 use record::{Header, Reading, Sweep};
-use replay::{Digest, Next, Tally};
+use replay::{Digest, Next, STDIN_FILENO, Tally};
 use replay_questions::{Question, answer};
 
 // What a record came to.

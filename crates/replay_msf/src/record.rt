@@ -1,10 +1,9 @@
 // The header of a record: 48 bytes, its numbers little-endian (`tests/differential/README.md` has the format).
 ghost use Rattle.std.specs.Prelude.{◌≤◌};
 
-use libc::STDIN_FILENO;
 use listing::Place;
 use msf::{Limit, StreamNumber};
-use replay::{Digest, half, word};
+use replay::{Digest, STDIN_FILENO, half, word};
 use replay_questions::Question;
 
 const HEADER: usize = 48;

@@ -8,9 +8,8 @@
 mod ask;
 mod record;
 
-use libc::STDIN_FILENO;
 use record::{Header, LARGEST_ROOM, LONGEST, WIDTH};
-use replay::{Next, Tally};
+use replay::{Next, STDIN_FILENO, Tally};
 
 // The numbers of an annotation.
 const ENTRIES_EACH: usize = 3;

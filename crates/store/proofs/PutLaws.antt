@@ -10,15 +10,11 @@ use Rattle.store.specs.Putting.{Putting}
 use Rattle.store.proofs.SetsLaws.{sets_append, sets_before, sets_inside, sets_after}
 
 -- ---- `put`: the part takes all of what is copied, and is put back into the store
-module _ {B : Type 0} (xs t ys : List B) (at : ℕ) (fits : at + length xs ≤ length t) (e : ys ≡ take (length xs) xs ++ drop (length xs) (take (at + length xs - at) (drop at t))) where
+module _ {B : Type 0} (xs t ys : List B) (at : ℕ) (fits : at + length xs ≤ length t) (e : ys ≡ xs) where
   put_is : take at t ++ (ys ++ drop (at + length xs - at) (drop at t)) ≡ sets t at xs
   put_is =
       let a : at + length xs - at ≡ length xs = omega arith in
-      let all : take (length xs) xs ≡ xs = take_all (length xs) xs (omega arith) in
-      let short : length (take (length xs) (drop at t)) ≤ length xs = simp (length-take, length-drop) (omega arith) in
-      let none : drop (length xs) (take (length xs) (drop at t)) ≡ [] = drop_of_length-le _ short in
-      let same : ys ≡ xs = e ∙ rw (a, all, none, append-nil) in
-      rw (a, same, drop-drop) (sym (append_assoc (take at t) xs (drop (at + length xs) t))) ∙ sym (sets-eq xs t at fits)
+      rw (a, e, drop-drop) (sym (append_assoc (take at t) xs (drop (at + length xs) t))) ∙ sym (sets-eq xs t at fits)
 
   pub putting : Putting xs t at (take at t ++ (ys ++ drop (at + length xs - at) (drop at t))) (at + length xs)
   putting = record { store = put_is; place = refl; within = rw (put_is, length-sets) fits }

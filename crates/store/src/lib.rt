@@ -10,6 +10,6 @@ pub fn put(store: &mut [u8], at: usize, bytes: &[u8]) -> usize
     ensures { Putting bytes.now store.old at store.new result }
 {
     let n = bytes.len();
-    bytes::copy(bytes, &mut store[at..at + n]);
+    store[at..at + n].copy_from_slice(bytes);
     at + n
 }

@@ -27,7 +27,7 @@ module _ (yes no : ℤ) {test : Bool} where
   left_out h e = rw (stored h, e)
 
 pub signed_is : (v : ℕ) {d r : ℤ} → d ≡ signed_of v → mag d < 2 ^ 31 → r ≡ to_z w32 (of_z w32 d) → mag r < 2 ^ 63 → back r ≡ signed_of v
-signed_is v ed hd er hr = stored hr ∙ er ∙ to_z-of_z (record { sfits = hd }) ∙ ed
+signed_is v ed hd er hr = stored hr ∙ er ∙ to_z-of_z {w = w32} (record { sfits = hd }) ∙ ed
 
 -- ---- the two numbers
 module _ (op v : ℕ) where

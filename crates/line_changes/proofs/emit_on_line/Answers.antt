@@ -1,0 +1,10 @@
+-- The line is advanced first, as in `emission_on_line`, and `emit` does the rest.
+-- Assumes nothing.
+use Rattle.line_changes.proofs.ChangeLaws.{sum_cases}
+use Rattle.line_changes.proofs.emit_on_line.Goals as goal
+
+pub returns-in_default : goal.returns-in_default
+returns-in_default c = search sum_cases
+
+pub returns : goal.returns
+returns c = search sum_cases

@@ -1,0 +1,7 @@
+-- Word, number and newline each begin where the one before ended, so together they are one run (`puts_three`). Assumes
+-- room for 80 bytes.
+use Rattle.store.proofs.PutLaws.{puts_three}
+use Rattle.listing_text.proofs.write_head.Goals as goal
+
+pub returns : goal.returns
+returns c = search puts_three
