@@ -32,7 +32,7 @@ impl Numbers {
     // Puts them at a place, and returns the place after them. The caller guarantees that each has a form, and the room.
     pub fn put(self, out: &mut [u8], at: usize) -> usize
         requires have_forms { HaveForms self }
-        requires self_in_bounds { at + length (shorts (numbers_in self)) ≤ length out.old }
+        requires room { at + length (shorts (numbers_in self)) ≤ length out.old }
         ensures { Putting (shorts (numbers_in self)) out.old at out.new result }
     {
         let opcode = self.opcode;

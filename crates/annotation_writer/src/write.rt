@@ -68,7 +68,7 @@ fn width_at(records: &[i64], k: usize) -> usize
 // Writes all records from the front. The caller guarantees that each can be written, and the room.
 fn write_all(records: &[i64], out: &mut [u8])
     requires all_writable { AllWritable records.now }
-    requires records_in_bounds { length (list_bytes records.now) ≤ length out.old }
+    requires room { length (list_bytes records.now) ≤ length out.old }
     ensures { out.new ≡ sets out.old 0 (list_bytes records.now) }
 {
     let n = records.len() / ENTRIES_EACH;

@@ -17,7 +17,7 @@ pub fn proved()
     ensures same_entries { SameEntries }
     ensures shortest { Shortest }
     ensures more_bytes { MoreBytes }
-    ensures from_aplace { FromAPlace }
+    ensures from_a_place { FromAPlace }
     ensures carries_exactly { CarriesExactly }
     ensures refused_exactly { RefusedExactly }
     ensures cases { Cases }

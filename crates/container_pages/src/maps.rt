@@ -16,7 +16,7 @@ const BITS: usize = 8;
 pub fn begin_page(l: Layout, r: usize, out: &mut [u8]) -> usize
     requires bounds { Bounds l }
     requires r_bound { r < 2 ^ 32 }
-    requires pagesize_in_bounds { data_page l.pagesize r * l.pagesize ≤ length out.old }
+    requires room { data_page l.pagesize r * l.pagesize ≤ length out.old }
     ensures { Beginning l r result out.old out.new }
 {
     let size = l.pagesize;
@@ -43,7 +43,7 @@ fn data_place(size: usize, r: usize) -> usize
 fn put_map(l: Layout, q: usize, out: &mut [u8], at: usize)
     requires bounds { Bounds l }
     requires q_bound { q < 2 ^ 32 }
-    requires pagesize_in_bounds { at + l.pagesize ≤ length out.old }
+    requires room { at + l.pagesize ≤ length out.old }
     ensures { Filled (map_from l q at) out.old at (at + l.pagesize) out.new }
 {
     let mut x: usize = 0;

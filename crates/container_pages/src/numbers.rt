@@ -30,7 +30,7 @@ pub fn put_numbers(
 )
     requires laid { Laid l sizes.now }
     requires n_bound { first + n < 2 ^ 32 }
-    requires n_in_bounds { at + 4 * n ≤ length out.old }
+    requires room { at + 4 * n ≤ length out.old }
     ensures { Filled (numbers_from (numbers_of l sizes.now which) first at)
         out.old at (at + 4 * n) out.new }
 {

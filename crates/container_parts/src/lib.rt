@@ -57,7 +57,7 @@ pub fn write_numbers(
     out: &mut [u8],
 )
     requires laid { Laid l sizes.now }
-    requires pagesize_bound { pages * (l.pagesize / 4) < 2 ^ 32 }
+    requires numbers_bound { pages * (l.pagesize / 4) < 2 ^ 32 }
     requires room { Room l (first + pages) (length out.old) }
     ensures { Numbering l first pages (numbers_of l sizes.now which) out.old out.new }
 {

@@ -44,7 +44,7 @@ pub fn write_container(page_size: u32, sizes: &[u32], bytes: &[u8], out: &mut [u
 fn write_file(l: Layout, sizes: &[u32], bytes: &[u8], out: &mut [u8])
     requires laid { Laid l sizes.now }
     requires given { Given l.pagesize sizes.now bytes.now }
-    requires pagesize_in_bounds { l.used * l.pagesize ≤ length out.old }
+    requires room { l.used * l.pagesize ≤ length out.old }
     ensures { out.new ≡
         sets out.old 0
         (first_bytes (container l.pagesize sizes.now bytes.now) (l.used * l.pagesize)) }
@@ -57,7 +57,7 @@ fn write_file(l: Layout, sizes: &[u32], bytes: &[u8], out: &mut [u8])
 // Page 0: the magic, and the header's numbers.
 fn write_header(l: Layout, sizes: &[u32], out: &mut [u8])
     requires laid { Laid l sizes.now }
-    requires pagesize_in_bounds { l.pagesize ≤ length out.old }
+    requires room { l.pagesize ≤ length out.old }
     ensures { Filled (header_byte l.pagesize sizes.now) out.old 0 l.pagesize out.new }
 {
     put(
@@ -80,7 +80,7 @@ fn write_header(l: Layout, sizes: &[u32], out: &mut [u8])
 fn write_data(l: Layout, sizes: &[u32], bytes: &[u8], out: &mut [u8])
     requires laid { Laid l sizes.now }
     requires given { Given l.pagesize sizes.now bytes.now }
-    requires pagesize_in_bounds { l.used * l.pagesize ≤ length out.old }
+    requires room { l.used * l.pagesize ≤ length out.old }
     ensures { Data l sizes.now bytes.now out.old out.new }
 {
     write_streams(l, sizes, bytes, out);
@@ -94,7 +94,7 @@ fn write_data(l: Layout, sizes: &[u32], bytes: &[u8], out: &mut [u8])
 fn write_streams(l: Layout, sizes: &[u32], bytes: &[u8], out: &mut [u8])
     requires laid { Laid l sizes.now }
     requires given { Given l.pagesize sizes.now bytes.now }
-    requires pagesize_in_bounds { l.used * l.pagesize ≤ length out.old }
+    requires room { l.used * l.pagesize ≤ length out.old }
     ensures { Streams l sizes.now bytes.now out.old out.new }
 {
     let mut r: usize = 0;

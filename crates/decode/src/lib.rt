@@ -84,7 +84,7 @@ fn count_all(bytes: &[u8]) -> CountedAll
 // Writes the entries of all annotations from the front: `needed` of them, for which the caller guarantees room.
 fn write_all(bytes: &[u8], store: &mut [i64], needed: usize)
     requires needed_value { needed ≡ length (decoded_entries bytes.now) }
-    requires needed_in_bounds { needed ≤ length store.old }
+    requires room { needed ≤ length store.old }
     ensures { store.new ≡ sets store.old 0 (decoded_entries bytes.now) }
 {
     let mut at: usize = 0;

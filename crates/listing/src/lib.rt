@@ -73,7 +73,7 @@ fn put_refusal(why: ListRefusal, text: &mut [u8], out: &mut [u8]) -> usize
 fn write_lines(file: &[u8], s: Listable, from: usize, text: &mut [u8], out: &mut [u8]) -> Part
     requires whole { Whole (byte_at file.now) (length file.now) s }
     requires from_bound { from ≤ 1 + s.count }
-    requires in_bounds { 80 ≤ length text.old }
+    requires room { 80 ≤ length text.old }
     ensures { Writes (byte_at file.now) (length file.now)
         (lines_in (byte_at file.now) (length file.now) s.count from (length out.old))
         out.old result out.new }

@@ -36,8 +36,8 @@ enum Line {
 pub fn write_line(file: &[u8], s: Listable, line: usize, before: usize, text: &mut [u8]) -> usize
     requires whole { Whole (byte_at file.now) (length file.now) s }
     requires line_le_count { line ≤ s.count }
-    requires before { Before (byte_at file.now) s.header.pagesize (line - 1) before }
-    requires in_bounds { 80 ≤ length text.old }
+    requires pages_before { Before (byte_at file.now) s.header.pagesize (line - 1) before }
+    requires room { 80 ≤ length text.old }
     ensures { Putting (line_at (byte_at file.now) (length file.now) s.count line)
         text.old 0 text.new result }
 {
@@ -66,7 +66,7 @@ fn write_shown(text: &mut [u8], k: u32, line: Line) -> usize
 fn show(file: &[u8], s: Listable, stream: StreamNumber, before: usize) -> Line
     requires whole { Whole (byte_at file.now) (length file.now) s }
     requires stream_lt_count { stream.0 < s.count }
-    requires before { Before (byte_at file.now) s.header.pagesize stream.0 before }
+    requires pages_before { Before (byte_at file.now) s.header.pagesize stream.0 before }
     ensures { shown_in result ≡ shown (byte_at file.now) (length file.now) stream.0 }
 {
     let h = s.header;
@@ -107,7 +107,7 @@ pub fn pages_before_line(file: &[u8], s: Listable, line: usize) -> usize
 pub fn move_past(file: &[u8], s: Listable, line: usize, before: usize) -> usize
     requires whole { Whole (byte_at file.now) (length file.now) s }
     requires line_le_count { line ≤ s.count }
-    requires before { Before (byte_at file.now) s.header.pagesize (line - 1) before }
+    requires pages_before { Before (byte_at file.now) s.header.pagesize (line - 1) before }
     ensures { Before (byte_at file.now) s.header.pagesize (line + 1 - 1) result }
 {
     let h = s.header;

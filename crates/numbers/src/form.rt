@@ -37,8 +37,8 @@ pub fn width_at(bytes: &[u8], at: usize) -> usize
 
 // The value of the number at `at`, which takes `width` bytes.
 pub fn value_at(bytes: &[u8], at: usize, width: usize) -> u32
-    requires width { Width bytes.now at width }
-    requires fact { width ≡ 0 → ⊥ }
+    requires is_width { Width bytes.now at width }
+    requires not_none { width ≡ 0 → ⊥ }
     ensures { Value bytes.now at width result }
 {
     let b1 = byte_at(bytes, at);

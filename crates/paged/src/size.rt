@@ -49,7 +49,7 @@ pub fn words_left(size: usize, w: usize) -> usize
 // Of an object of `bytes` bytes, how many lie in the m pages from page i on.
 pub fn span_of(size: usize, bytes: usize, i: usize, m: usize) -> usize
     requires page_size { PageSize size }
-    requires m_bound { i + m ≤ 2 ^ 32 }
+    requires end_bound { i + m ≤ 2 ^ 32 }
     ensures { result ≡ span size bytes i m }
 {
     let before = i * size;

@@ -44,8 +44,8 @@ pub fn map(
 // Entry i begins as entry i of the two stores.
 fn gather(offsets: &[u64], sizes: &[u64], n: usize) -> Entries
     requires n_bound { n ≤ 1024 }
-    requires n_in_bounds { n ≤ length offsets.now }
-    requires n_in_bounds_2 { n ≤ length sizes.now }
+    requires in_offsets { n ≤ length offsets.now }
+    requires in_sizes { n ≤ length sizes.now }
 {
     let mut slices = [SourceSlice { offset: 0, size: 0 }; 1024];
     for i in 0..n {
@@ -68,8 +68,8 @@ fn map_stored(file: &[u8], stream: StreamNumber, limit: Limit, n: usize, entries
 
 fn spread(slices: [SourceSlice; 1024], n: usize, offsets: &mut [u64], sizes: &mut [u64])
     requires n_bound { n ≤ 1024 }
-    requires n_in_bounds { n ≤ length offsets.old }
-    requires n_in_bounds_2 { n ≤ length sizes.old }
+    requires in_offsets { n ≤ length offsets.old }
+    requires in_sizes { n ≤ length sizes.old }
 {
     for i in 0..n {
         let slice = slices[i];

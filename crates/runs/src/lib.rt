@@ -91,7 +91,7 @@ pub fn lies_in_file(file: &[u8], size: usize, pages: Pages, bytes: usize, n: usi
 // Where what is wanted of m pages ends in the file: the pages from page i of an object on, which go up by one.
 fn end_of(size: usize, page: PageNumber, bytes: usize, i: usize, m: usize) -> usize
     requires page_size { PageSize size }
-    requires m_bound { i + m ≤ 2 ^ 32 }
+    requires end_bound { i + m ≤ 2 ^ 32 }
     ensures { result ≡ page.0 * size + span size bytes i m }
 {
     let start = page.0 as usize * size;

@@ -64,7 +64,7 @@ fn some_run(file: &[u8], size: usize, pages: Pages, i: usize, n: usize, rest: Ru
     requires i_bound { entry_of pages i < 2 ^ 32 }
     requires n_nonzero { 0 < n }
     requires running { Running (byte_at file.now) size pages i n rest }
-    ensures running_2 { Running (byte_at file.now) size pages i n result }
+    ensures found { Running (byte_at file.now) size pages i n result }
     ensures words_nonzero { 0 < result.words }
 {
     if rest.words == 0 {
@@ -76,7 +76,7 @@ fn some_run(file: &[u8], size: usize, pages: Pages, i: usize, n: usize, rest: Ru
 // How many of the n words at a place go up by one, from the first on.
 fn rising(file: &[u8], at: usize, n: usize) -> usize
     requires n_nonzero { 0 < n }
-    requires n_in_bounds { at + 4 * n ≤ length file.now }
+    requires in_file { at + 4 * n ≤ length file.now }
     ensures { Rising (byte_at file.now) at n result }
 {
     let first = word_in(file, at) as usize;

@@ -21,7 +21,7 @@ pub fn short_width(n: u32) -> usize
 // and the room.
 pub fn put_short(out: &mut [u8], at: usize, n: u32) -> usize
     requires n_bound { n < 2 ^ 29 }
-    requires n_in_bounds { at + length (short n) ≤ length out.old }
+    requires room { at + length (short n) ≤ length out.old }
     ensures { Putting (short n) out.old at out.new result }
 {
     if n < TWO_BYTES {
@@ -36,8 +36,8 @@ pub fn put_short(out: &mut [u8], at: usize, n: u32) -> usize
 
 // A number of 0x80 to 0x3fff: a first byte of 0x80 or more, and then the low eight bits.
 fn put_two(out: &mut [u8], at: usize, n: u32) -> usize
-    requires le_n { (0x80 ≤ n) × (n < 0x4000) }
-    requires at_in_bounds { at + 2 ≤ length out.old }
+    requires n_range { (0x80 ≤ n) × (n < 0x4000) }
+    requires room { at + 2 ≤ length out.old }
     ensures { Putting (short n) out.old at out.new result }
 {
     out[at] = (0x80 + n / 0x100) as u8;
@@ -47,8 +47,8 @@ fn put_two(out: &mut [u8], at: usize, n: u32) -> usize
 
 // A number of 0x4000 or more: a first byte of 0xc0 or more, and then the low 24 bits, highest first.
 fn put_four(out: &mut [u8], at: usize, n: u32) -> usize
-    requires le_n { (0x4000 ≤ n) × (n < 2 ^ 29) }
-    requires at_in_bounds { at + 4 ≤ length out.old }
+    requires n_range { (0x4000 ≤ n) × (n < 2 ^ 29) }
+    requires room { at + 4 ≤ length out.old }
     ensures { Putting (short n) out.old at out.new result }
 {
     out[at] = (0xc0 + n / 0x1000000) as u8;

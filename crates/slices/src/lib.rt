@@ -52,8 +52,8 @@ pub fn count_slices(file: &[u8], x: Extent) -> usize
 pub fn write_slices(file: &[u8], x: Extent, offsets: &mut [u64], sizes: &mut [u64]) -> usize
     requires extends { Extends x }
     requires entries_lie { EntriesLie (byte_at file.now) (length file.now) x }
-    requires x_in_bounds { length (slices_through (byte_at file.now) x) ≤ length offsets.old }
-    requires x_in_bounds_2 { length (slices_through (byte_at file.now) x) ≤ length sizes.old }
+    requires offsets_room { length (slices_through (byte_at file.now) x) ≤ length offsets.old }
+    requires sizes_room { length (slices_through (byte_at file.now) x) ≤ length sizes.old }
     ensures { Writing (slices_through (byte_at file.now) x) result
         offsets.old sizes.old offsets.new sizes.new }
 {
@@ -124,8 +124,8 @@ fn follows(count: usize, after: usize, page: PageNumber) -> bool
 // The last slice, as far as it reaches, in its place.
 fn put(offsets: &mut [u64], sizes: &mut [u64], walk: Walk)
     requires count_nonzero { 0 < walk.count }
-    requires count_in_bounds { walk.count ≤ length offsets.old }
-    requires count_in_bounds_2 { walk.count ≤ length sizes.old }
+    requires in_offsets { walk.count ≤ length offsets.old }
+    requires in_sizes { walk.count ≤ length sizes.old }
     ensures offsets_after { offsets.new ≡ set offsets.old (walk.count - 1) walk.slice.offset }
     ensures sizes_after { sizes.new ≡ set sizes.old (walk.count - 1) walk.slice.size }
 {

@@ -171,7 +171,7 @@ pub fn pages_before(file: &[u8], size: usize, k: usize) -> usize
 fn pages_in(file: &[u8], size: usize, at: usize, n: usize) -> usize
     requires page_size { PageSize size }
     requires n_bound { n ≤ 2 ^ 32 }
-    requires n_in_bounds { at + 4 * n ≤ length file.now }
+    requires in_file { at + 4 * n ≤ length file.now }
     ensures { Within (byte_at file.now) size at n result }
 {
     let mut j: usize = 0;

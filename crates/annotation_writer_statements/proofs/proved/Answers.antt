@@ -26,8 +26,8 @@ returns-clause-shortest c = shortest
 pub returns-clause-more_bytes : goal.returns-clause-more_bytes
 returns-clause-more_bytes c = more_bytes
 
-pub returns-clause-from_aplace : goal.returns-clause-from_aplace
-returns-clause-from_aplace c = from_a_place
+pub returns-clause-from_a_place : goal.returns-clause-from_a_place
+returns-clause-from_a_place c = from_a_place
 
 pub returns-clause-carries_exactly : goal.returns-clause-carries_exactly
 returns-clause-carries_exactly c = carries_exactly

@@ -12,11 +12,11 @@ write_slices-slices-requires-clause-extends c = search write_extends
 pub write_slices-slices-requires-clause-entries_lie : goal.write_slices-slices-requires-clause-entries_lie
 write_slices-slices-requires-clause-entries_lie c = search write_lie
 
-pub write_slices-slices-requires-clause-x_in_bounds : goal.write_slices-slices-requires-clause-x_in_bounds
-write_slices-slices-requires-clause-x_in_bounds c = search write_offsets
+pub write_slices-slices-requires-clause-offsets_room : goal.write_slices-slices-requires-clause-offsets_room
+write_slices-slices-requires-clause-offsets_room c = search write_offsets
 
-pub write_slices-slices-requires-clause-x_in_bounds_2 : goal.write_slices-slices-requires-clause-x_in_bounds_2
-write_slices-slices-requires-clause-x_in_bounds_2 c = search write_sizes
+pub write_slices-slices-requires-clause-sizes_room : goal.write_slices-slices-requires-clause-sizes_room
+write_slices-slices-requires-clause-sizes_room c = search write_sizes
 
 pub returns : goal.returns
 returns c = search write_cases

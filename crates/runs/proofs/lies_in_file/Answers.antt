@@ -8,8 +8,8 @@ use Rattle.runs.proofs.lies_in_file.Goals as goal
 pub loop-s-init : goal.loop-s-init
 loop-s-init c = (refl, search standing_none, rw c.before_first-s.ensures (search lies_cases))
 
-pub end_of-end-requires-clause-m_bound : goal.end_of-end-requires-clause-m_bound
-end_of-end-requires-clause-m_bound c = search (stretch_small, rules)
+pub end_of-end-requires-clause-end_bound : goal.end_of-end-requires-clause-end_bound
+end_of-end-requires-clause-end_bound c = search (stretch_small, rules)
 
 pub returns-then-len-end : goal.returns-then-len-end
 returns-then-len-end c = search lies_cases

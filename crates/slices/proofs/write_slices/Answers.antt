@@ -31,12 +31,12 @@ returns c = search (write_cases, rules)
 pub put-requires-clause-count_nonzero : goal.put-requires-clause-count_nonzero
 put-requires-clause-count_nonzero c = search onward_some
 
-pub put-requires-clause-count_in_bounds : goal.put-requires-clause-count_in_bounds
-put-requires-clause-count_in_bounds c =
+pub put-requires-clause-in_offsets : goal.put-requires-clause-in_offsets
+put-requires-clause-in_offsets c =
     let inv = c.loop-s.invariant in
-    room_offsets inv.2 inv.1 c.next_stretch-s.ensures c.extend-walk.ensures c.requires.extends c.requires.x_in_bounds
+    room_offsets inv.2 inv.1 c.next_stretch-s.ensures c.extend-walk.ensures c.requires.extends c.requires.offsets_room
 
-pub put-requires-clause-count_in_bounds_2 : goal.put-requires-clause-count_in_bounds_2
-put-requires-clause-count_in_bounds_2 c =
+pub put-requires-clause-in_sizes : goal.put-requires-clause-in_sizes
+put-requires-clause-in_sizes c =
     let inv = c.loop-s.invariant in
-    room_sizes inv.2 inv.1 c.next_stretch-s.ensures c.extend-walk.ensures c.requires.extends c.requires.x_in_bounds_2
+    room_sizes inv.2 inv.1 c.next_stretch-s.ensures c.extend-walk.ensures c.requires.extends c.requires.sizes_room

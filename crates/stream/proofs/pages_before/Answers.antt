@@ -8,8 +8,8 @@ use Rattle.stream.proofs.pages_before.Goals as goal
 pub loop-i-init : goal.loop-i-init
 loop-i-init c = (omega arith, search before_cases)
 
-pub pages_in-before-requires-clause-n_in_bounds : goal.pages_in-before-requires-clause-n_in_bounds
-pages_in-before-requires-clause-n_in_bounds c = search (run_lies, rules)
+pub pages_in-before-requires-clause-in_file : goal.pages_in-before-requires-clause-in_file
+pages_in-before-requires-clause-in_file c = search (run_lies, rules)
 
 pub overflow_add-before : goal.overflow_add-before
 overflow_add-before c = search (before_cases, rules)

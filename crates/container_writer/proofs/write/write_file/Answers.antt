@@ -6,8 +6,8 @@ use Rattle.container_writer.proofs.write.write_file.Goals as goal
 pub write_header-requires : goal.write_header-requires
 write_header-requires c = search header_room
 
-pub write_data-requires-clause-pagesize_in_bounds : goal.write_data-requires-clause-pagesize_in_bounds
-write_data-requires-clause-pagesize_in_bounds c = search data_room
+pub write_data-requires-clause-room : goal.write_data-requires-clause-room
+write_data-requires-clause-room c = search data_room
 
 pub overflow_add-l : goal.overflow_add-l
 overflow_add-l c = search last_fits
@@ -19,7 +19,7 @@ pub overflow_mul-l-2 : goal.overflow_mul-l-2
 overflow_mul-l-2 c = search used_fits
 
 pub put_zeros-requires : goal.put_zeros-requires
-put_zeros-requires c = padding_within c.requires.laid _ c.requires.pagesize_in_bounds
+put_zeros-requires c = padding_within c.requires.laid _ c.requires.room
     c.write_header.ensures
     c.write_data.ensures
 

@@ -13,14 +13,14 @@ overflow_mul-from c = search (from_fits, rules)
 pub overflow_mul-to : goal.overflow_mul-to
 overflow_mul-to c = search to_fits
 
-pub span_of-n-requires-clause-m_bound : goal.span_of-n-requires-clause-m_bound
-span_of-n-requires-clause-m_bound c = search (stretch_small, rules)
+pub span_of-n-requires-clause-end_bound : goal.span_of-n-requires-clause-end_bound
+span_of-n-requires-clause-end_bound c = search (stretch_small, rules)
 
-pub copy-requires-clause-n_in_bounds : goal.copy-requires-clause-n_in_bounds
-copy-requires-clause-n_in_bounds c = run_in_file c.loop-s.invariant.1 c.requires.extends c.next_stretch-s.ensures c.span_of-n.ensures c.requires.lies_in
+pub copy-requires-clause-in_file : goal.copy-requires-clause-in_file
+copy-requires-clause-in_file c = run_in_file c.loop-s.invariant.1 c.requires.extends c.next_stretch-s.ensures c.span_of-n.ensures c.requires.lies_in
 
-pub copy-requires-clause-n_in_bounds_2 : goal.copy-requires-clause-n_in_bounds_2
-copy-requires-clause-n_in_bounds_2 c = run_in_store c.loop-s.invariant.1 c.requires.extends c.next_stretch-s.ensures c.span_of-n.ensures c.requires.bytes_in_bounds
+pub copy-requires-clause-room : goal.copy-requires-clause-room
+copy-requires-clause-room c = run_in_store c.loop-s.invariant.1 c.requires.extends c.next_stretch-s.ensures c.span_of-n.ensures c.requires.room
 
 pub loop-s-smaller : goal.loop-s-smaller
 loop-s-smaller c = search stretch_less

@@ -12,8 +12,8 @@ some_run-run-requires-clause-i_bound c = search entry_below
 pub word_in-page-requires : goal.word_in-page-requires
 word_in-page-requires c = search (first_lies, rules)
 
-pub rising-m-requires-clause-n_in_bounds : goal.rising-m-requires-clause-n_in_bounds
-rising-m-requires-clause-n_in_bounds c = search (run_lies, rules)
+pub rising-m-requires-clause-in_file : goal.rising-m-requires-clause-in_file
+rising-m-requires-clause-in_file c = search (run_lies, rules)
 
 pub overflow_mul-at : goal.overflow_mul-at
 overflow_mul-at c = search (four_fits, rules)
