@@ -59,7 +59,7 @@ def functions_of(crate):
                 owner = block.group(1) + '::'
             elif line == '}':
                 owner = ''
-            if found := re.match(r'\s*pub (extern "C" )?fn (\w+)', line):
+            if found := re.match(r'\s*pub (?:const |unsafe )*(extern "C" )?fn (\w+)', line):
                 head = head_of(lines, number)
                 yield Function(crate, owner + found.group(2), bool(found.group(1)), clauses(head, 'requires'), clauses(head, 'ensures'))
 
@@ -70,13 +70,13 @@ def functions():
 
 def promises(function, name):
     """Whether a clause is this promise, or says that the result is this definition, without a premise."""
-    promise = re.compile(rf'ensures(?: \w+)? {{ (?:result ≡ )?\(?{re.escape(name)} [^→]*$')
+    promise = re.compile(rf'ensures(?: \w+)? {{ (?:result ≡ \(?)?{re.escape(name)} [^→⊎]*$')
     return any(promise.match(clause) for clause in function.ensures)
 
 
 def statements_of(function):
     """The statements that a `proved` promises: each without a premise, and for all values of its binders."""
-    statement = re.compile(r'ensures(?: \w+)? { (?:(?:\([^():]+ : [^():]+\) )+→ )?([^\s()→]+)[^→]* }')
+    statement = re.compile(r'ensures(?: \w+)? { (?:(?:\([^():]+ : [^():]+\) )+→ )?([^\s()→]+)[^→⊎]* }(?: {}?)? $')
     for clause in function.ensures:
         found = statement.match(clause)
         yield found.group(1) if found else clause.strip()
