@@ -19,6 +19,7 @@ pub struct Numbers {
 
 impl Numbers {
     // How many bytes they take.
+    #[tactic(auto, using(crate::proofs::OperandLaws::width_cases))]
     pub fn width(self) -> usize
         ensures { result ≡ length (shorts (numbers_in self)) }
     {
@@ -77,6 +78,7 @@ fn first_operand(opcode: u32, first: i64, second: i64) -> u32
 }
 
 // The operand whose signed reading is z. The caller guarantees that there is one.
+#[tactic(auto, using(crate::proofs::OperandLaws::operand_cases))]
 fn operand_of(z: i64) -> u32
     requires { nat_abs z ≤ 268435455 }
     ensures { result ≡ operand_of z }

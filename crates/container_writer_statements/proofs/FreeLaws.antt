@@ -10,7 +10,7 @@ use lib.ListN.{length}
 use Rattle.parse_buffer.specs.Bytes.{File}
 use Rattle.container_layout.specs.Place.{pages_with}
 use Rattle.container_layout.specs.Layout.{stream_pages, directory_pages, location_page, pages_used, is_padding}
-use Rattle.container_layout.specs.Container.{bits, map_byte, data_byte}
+use Rattle.container_layout.specs.Container.{map_byte, data_byte}
 use Rattle.container_layout.proofs.PlaceLaws.{times_up, data_least}
 use Rattle.container_layout.proofs.ContainerLaws.{padding_yes, padding_not, with_map, with_zero, container_pages}
 use Rattle.container_writer_statements.specs.Accepted.{Accepted, Holds}

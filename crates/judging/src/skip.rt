@@ -5,6 +5,7 @@ ghost use Rattle.judging.specs.Inner.{Skipping, SkippingOperands};
 use numbers::{value_at, width_at};
 
 // The place after the annotation at `at`. 0 if none stands there.
+#[tactic(auto, using(crate::proofs::SkipLaws::skip_cases))]
 pub fn skip_at(bytes: &[u8], at: usize) -> usize
     ensures { Skipping bytes.now at result }
 {

@@ -40,6 +40,7 @@ impl Judged {
     }
 }
 
+#[tactic(auto, using(crate::proofs::WholeLaws::too_long))]
 pub fn judge(file: &[u8]) -> Judged
     ensures { Judges (byte_at file.now) (length file.now) result }
 {

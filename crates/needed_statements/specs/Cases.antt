@@ -1,6 +1,6 @@
 -- File F's parts: its location list is the four bytes of page 3 that name page 4, its directory the 36 bytes there.
 -- proofs/Cases.antt proves them by computation.
-use Rattle.std.specs.Prelude.{◌≡◌, List, [], ◌∷◌, ℕ}
+use Rattle.std.specs.Prelude.{◌≡◌, [], ◌∷◌, ℕ}
 use Rattle.outcome.specs.Outcome.{Outcome, ok, refused, ◌>>=◌}
 use Rattle.outcome.specs.Refusal as paper
 use Rattle.parse_buffer.specs.Bytes.{File}

@@ -8,6 +8,7 @@ ghost use Rattle.numbers.specs.Inner.{Byte, Width, Value, Why};
 use crate::refusal::{PlacedRefusal, Refusal};
 
 // How many bytes the number at `at` takes. 0 if there is none.
+#[tactic(auto, unfolding(crate::specs::Inner::width_of, crate::specs::Number::number_at))]
 pub fn width_at(bytes: &[u8], at: usize) -> usize
     ensures { Width bytes.now at result }
 {
@@ -62,6 +63,7 @@ pub fn is_shortest(value: u32, width: usize) -> bool
 }
 
 // How many bytes the shortest form of a value takes.
+#[tactic(auto, unfolding(crate::specs::Number::short_width))]
 pub fn short_width(value: u32) -> usize
     ensures { result ≡ short_width value }
 {
@@ -75,6 +77,7 @@ pub fn short_width(value: u32) -> usize
 }
 
 // Why there is no number at `at`. Four bytes are read before the first is judged, so with fewer it is 7, not 8.
+#[tactic(auto, unfolding(crate::specs::Inner::width_of, crate::specs::Number::number_at))]
 pub fn why_at(bytes: &[u8], at: usize) -> PlacedRefusal
     requires { Width bytes.now at 0 }
     ensures { Why bytes.now at result }

@@ -1,4 +1,3 @@
-use Prim.Native.Nat.{◌-◌}
 use Rattle.container_parts.proofs.PartLaws.{pages_cases, laid_bounds, page_rank, page_rank_fits, page_begins, page_index, page_numbers, page_fits_lem}
 use Rattle.container_parts.proofs.write_numbers.Goals as goal
 

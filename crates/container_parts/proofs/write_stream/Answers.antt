@@ -1,4 +1,3 @@
-use Prim.Native.Nat.{◌-◌}
 use Rattle.container_parts.proofs.StreamLaws.{stream_none, run_mul, stream_less, stream_in_run, stream_room, stream_more, stream_all}
 use Rattle.container_parts.proofs.write_stream.Goals as goal
 

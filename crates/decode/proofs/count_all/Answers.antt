@@ -1,4 +1,3 @@
-use Prim.Native.Nat.{◌-◌}
 use Rattle.decode.proofs.DecodeLaws.{count_cases}
 use Rattle.decode.proofs.count_all.Goals as goal
 

@@ -1,4 +1,3 @@
-use Prim.Native.Nat.{◌-◌}
 use Rattle.decode.proofs.DecodeLaws.{write_cases}
 use Rattle.decode.proofs.write_all.Goals as goal
 

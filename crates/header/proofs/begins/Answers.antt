@@ -1,4 +1,3 @@
-use Prim.Native.Nat.{◌-◌}
 use native.Mathlib.Omega.{arith}
 use Rattle.header.proofs.BlockLaws.{begun_cases}
 use Rattle.header.proofs.begins.Goals as goal

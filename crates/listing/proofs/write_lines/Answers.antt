@@ -1,4 +1,3 @@
-use Prim.Native.Nat.{◌-◌}
 use borrow.Author.Rules.{rules}
 use Rattle.store.proofs.PutLaws.{put_counts}
 use Rattle.listing.proofs.ListLaws.{write_cases, so_more, so_room, so_inside, same_out}

@@ -1,4 +1,3 @@
-use Prim.Native.Nat.{◌-◌}
 use native.Mathlib.Omega.{arith}
 use borrow.Author.Rules.{rules}
 use Rattle.runs.proofs.RunLaws.{entry_below, run_lies, word_lies, four_fits, word_fits}

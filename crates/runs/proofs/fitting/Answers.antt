@@ -1,4 +1,3 @@
-use Prim.Native.Nat.{◌-◌}
 use native.Mathlib.Omega.{arith}
 use Rattle.runs.proofs.CheckLaws.{fit_cases}
 use Rattle.runs.proofs.fitting.Goals as goal

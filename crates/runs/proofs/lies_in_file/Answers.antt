@@ -1,5 +1,4 @@
 use mathlib.Core.Path.{refl}
-use Prim.Native.Nat.{◌-◌}
 use borrow.Author.Rules.{rules}
 use Rattle.runs.proofs.CheckLaws.{lies_cases}
 use Rattle.runs.proofs.StretchLaws.{standing_none, stretch_small, stretch_less}

@@ -1,7 +1,6 @@
 use Rattle.std.proofs.Common.{rules, ◌≡◌, arith, ◌<◌, length}
-use Rattle.outcome.specs.Refusal as paper
 use Rattle.parse_buffer.specs.Bytes.{byte_at}
-use Rattle.slice_store.proofs.StepLaws.{writable, start_reached, store_start, store_length, ready, next_reached, store_next, place_inside, next_nearer, maps_into}
+use Rattle.slice_store.proofs.StepLaws.{writable, start_reached, store_start, ready, next_reached, store_next, place_inside, next_nearer, maps_into}
 use Rattle.slice_store.proofs.map_into.Goals as goal
 
 pub loop-cursor-init : goal.loop-cursor-init

@@ -1,4 +1,3 @@
-use Prim.Native.Nat.{◌-◌}
 use borrow.Author.Rules.{rules}
 use Rattle.runs.proofs.StretchLaws.{standing_none, stretch_less}
 use Rattle.slices.proofs.WalkLaws.{walk_cases}

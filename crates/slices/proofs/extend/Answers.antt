@@ -1,7 +1,5 @@
 -- The two ways out are the two cases of `extended`. A walk over i pages is not longer than they are, so the sums fit.
 -- Assumes what holds of an extent, a stretch among its pages, and such a walk.
-use native.Mathlib.Omega.{arith}
-use Rattle.paged.proofs.SizeLaws.{at_most_largest}
 use Rattle.slices.proofs.WalkLaws.{longer, opened}
 use Rattle.slices.proofs.extend.Goals as goal
 

@@ -1,4 +1,3 @@
-use Prim.Native.Nat.{◌-◌}
 use Rattle.annotation_writer.proofs.WriteLaws.{measure_cases, measure_fits}
 use Rattle.annotation_writer.proofs.write.measure.Goals as goal
 

@@ -1,4 +1,3 @@
-use Prim.Native.Nat.{◌-◌}
 use Rattle.store.proofs.PutLaws.{put_length}
 use Rattle.annotation_writer.proofs.WriteLaws.{write_cases}
 use Rattle.annotation_writer.proofs.write.write_all.Goals as goal

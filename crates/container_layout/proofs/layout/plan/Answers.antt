@@ -1,6 +1,6 @@
 -- Each return is a line of `planning`.
 -- Assumes that the input is shorter than 2^63 bytes.
-use Rattle.container_layout.proofs.PlanLaws.{plan_cases, plan_size, plan_sum, plan_square, plan_numbered}
+use Rattle.container_layout.proofs.PlanLaws.{plan_cases, plan_size, plan_square, plan_numbered}
 use Rattle.container_layout.proofs.layout.plan.Goals as goal
 
 pub returns-then-not-size_fits : goal.returns-then-not-size_fits

@@ -1,4 +1,3 @@
-use Prim.Native.Nat.{◌-◌}
 use Rattle.container_layout.proofs.PlanLaws.{paged_cases, paged_fits}
 use Rattle.container_layout.proofs.layout.stream_pages.Goals as goal
 

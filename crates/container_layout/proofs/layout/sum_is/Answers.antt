@@ -1,4 +1,3 @@
-use Prim.Native.Nat.{◌-◌}
 use Rattle.container_layout.proofs.PlanLaws.{taken_cases}
 use Rattle.container_layout.proofs.layout.sum_is.Goals as goal
 

@@ -1,4 +1,3 @@
-use Prim.Native.Nat.{◌-◌}
 use Rattle.container_pages.proofs.FillLaws.{zeros_cases, zeros_room}
 use Rattle.container_pages.proofs.fill.put_zeros.Goals as goal
 

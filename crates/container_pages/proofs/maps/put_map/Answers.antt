@@ -1,4 +1,3 @@
-use Prim.Native.Nat.{◌-◌}
 use Rattle.container_pages.proofs.MapLaws.{map_cases, page_fits_lem, byte_fits, bit_fits}
 use Rattle.container_pages.proofs.maps.put_map.Goals as goal
 

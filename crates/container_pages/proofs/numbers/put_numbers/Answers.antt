@@ -1,4 +1,3 @@
-use Prim.Native.Nat.{◌-◌}
 use borrow.Author.Rules.{rules}
 use Rattle.store.proofs.PutLaws.{put_length}
 use Rattle.container_pages.proofs.NumberLaws.{numbers_cases, numbers_more, numbers_room, numbers_small}

@@ -1,4 +1,3 @@
-use Prim.Native.Nat.{◌-◌}
 use Rattle.container_parts.proofs.PartLaws.{laid_bounds}
 use Rattle.container_writer.proofs.FileLaws.{streams_none, streams_part, streams_fits, streams_short, streams_room, streams_more, streams_all}
 use Rattle.container_writer.proofs.write.write_streams.Goals as goal

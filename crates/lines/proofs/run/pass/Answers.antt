@@ -1,4 +1,3 @@
-use Prim.Native.Nat.{◌-◌}
 use Rattle.lines.proofs.PassLaws.{pass_cases}
 use Rattle.lines.proofs.run.pass.Goals as goal
 

@@ -1,4 +1,3 @@
-use Prim.Native.Nat.{◌-◌}
 use borrow.Author.Rules.{rules}
 use Rattle.runs.proofs.StretchLaws.{standing_none, stretch_less, stretch_small}
 use Rattle.msf.proofs.CopyLaws.{copy_cases, copy_more, run_in_file, run_in_store, from_fits, to_fits}
