@@ -127,7 +127,8 @@ pub record EntriesOf (f : File) (k : ℕ) (x : Found) : Type 0 where
 -- each stream's own: the entry ranges follow the sizes in stream order, and those of two streams are disjoint. Absent
 -- sizes take no pages; a size of 0 is present and empty
 pub record Own : Type 0 where
-  pub follows : (f : File) (p count k : ℕ) → first_of f p count (k + 1) ≡ first_of f p count k + pages_of p (size_at f p k)
+  pub follows : (f : File) (p count k : ℕ) →
+      first_of f p count (k + 1) ≡ first_of f p count k + pages_of p (size_at f p k)
   pub disjoint : (f : File) (p count j k : ℕ) → j < k →
       first_of f p count j + pages_of p (size_at f p j) ≤ first_of f p count k
   pub none : (p : ℕ) → pages_of p absent ≡ 0

@@ -40,4 +40,5 @@ pub record RefusedExactly : Type 0 where
   pub accepted : (p : ℕ) (sizes : List ℕ) (given room n : ℕ) →
       (writing p sizes given room ≡ ok n) ↔ (Fits p sizes given × ((n ≡ file_length p sizes) × (n ≤ room)))
   -- pages_used passes 32 bits only where directory_size does
-  pub used : (p : ℕ) (sizes : List ℕ) → PageSize p → directory_size p sizes ≤ 0xffffffff → pages_used p sizes ≤ 0xffffffff
+  pub used : (p : ℕ) (sizes : List ℕ) → PageSize p → directory_size p sizes ≤ 0xffffffff →
+      pages_used p sizes ≤ 0xffffffff

@@ -58,5 +58,6 @@ pub record Corollaries (f g : File) (len k : ℕ) (limit : Limit) : Type 0 where
   pub page_zero : {h : Header} → headed f len ≡ ok h → (i : ℕ) → i < h.pagesize →
       ListedBytes f len k limit i → ListedOpen f len i
   -- under the big magic, changing free_page_map changes nothing; nor does changing reserved, under any
-  pub free_page_map : stands_at f 0 big_magic ≡ true → DifferOnlyAt (λ i. (36 ≤ i) × (i < 40)) f g → Alike f g len k limit
+  pub free_page_map : stands_at f 0 big_magic ≡ true → DifferOnlyAt (λ i. (36 ≤ i) × (i < 40)) f g →
+      Alike f g len k limit
   pub reserved : DifferOnlyAt (λ i. (48 ≤ i) × (i < 52)) f g → Alike f g len k limit

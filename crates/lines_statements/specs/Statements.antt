@@ -72,7 +72,8 @@ pub record HasLength (before later : List PlacedTriple) (x : PlacedTriple) (line
   -- what is not given is the difference of the offsets, and the next one is not below
   pub due : given (own_length x.triple) later ≡ length_case.None → suc (emitting before) < length lines
       → (offset_of (line_of lines (emitting before)).at ≤ offset_of (line_of lines (suc (emitting before))).at)
-      × ((line_of lines (emitting before)).length ≡ length_case.Bytes (offset_of (line_of lines (suc (emitting before))).at
+      × ((line_of lines (emitting before)).length
+      ≡ length_case.Bytes (offset_of (line_of lines (suc (emitting before))).at
       - offset_of (line_of lines (emitting before)).at))
   -- and the last record has none then
   pub left : given (own_length x.triple) later ≡ length_case.None → length lines ≡ suc (emitting before)

@@ -25,7 +25,8 @@ pub record AbsentExactly (f : File) (len n k : ℕ) : Type 0 where
   pub empty_line : (room : ℕ) → (line_at f len n (suc k) ≡ stream_text k ++ size_text 0 0)
       ↔ (mapped f (mapping f len k None room) ≡ ok (record { slices = 0; length = 0 }))
   -- both by the size that the directory has for it: `absent` by that alone, `0 0` if the stream is there at all
-  pub absent_size : (line_at f len n (suc k) ≡ stream_text k ++ absent_text) ↔ (size_at f (header_at f).pagesize k ≡ absent)
+  pub absent_size : (line_at f len n (suc k) ≡ stream_text k ++ absent_text)
+      ↔ (size_at f (header_at f).pagesize k ≡ absent)
   pub empty_size : {x : Found} → found f len k ≡ ok x
       → (line_at f len n (suc k) ≡ stream_text k ++ size_text 0 0) ↔ (size_at f (header_at f).pagesize k ≡ 0)
 

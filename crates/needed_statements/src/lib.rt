@@ -19,7 +19,8 @@ pub fn proved()
     ensures single_valued { SingleValued }
     ensures part_exactly { (f : File) (len : ℕ) (stage : Stage) → PartExactly f len stage }
     ensures refusals { (f : File) (len : ℕ) → Refusals f len }
-    ensures isolation { (f g : File) (len : ℕ) (stage : Stage) (offsets sizes : List ℕ) → Isolation f g len stage offsets sizes }
+    ensures isolation { (f g : File) (len : ℕ) (stage : Stage) (offsets sizes : List ℕ) →
+        Isolation f g len stage offsets sizes }
     ensures prefix { (f g : File) (len len' : ℕ) (long : Holds f len) (long' : Holds g len') → Prefix f g len len' }
     ensures covers { (f : File) (len k : ℕ) → Covers f len k }
     ensures laid_out { (f g : File) (len len' : ℕ) (long : Holds f len) (long' : Holds g len') → LaidOut f g len len' }
