@@ -35,33 +35,65 @@ def clauses(head, word):
 
 
 def head_of(lines, first):
-    """The lines of a function from its name to the brace that opens its body."""
+    """The lines of a function from its name to the brace that opens its body, or to the semicolon of one in a trait."""
     head = []
     for line in lines[first:]:
         text = line.strip()
         clause = re.match(r'(requires|ensures)\b', text)
-        if text == '{' or (text.endswith('{') and not clause) or text == '{}':
+        if text == '{' or (text.endswith('{') and not clause) or text == '{}' or text.endswith(';'):
             return head + [line]
         head.append(line)
     raise SystemExit(f'no body: {lines[first]}')
 
 
-def functions_of(crate):
-    """The public functions of a library; a program has none."""
+def sources_of(crate):
+    """The lines of each source file of a library, without comments; a program has none."""
     source = CRATES / crate / 'src'
-    if not (source / 'lib.rt').exists():
-        return
-    for path in sorted(source.rglob('*.rt')):
-        lines = [re.sub(r'//.*', '', line) for line in read(path).split('\n')]
-        owner = ''
+    if (source / 'lib.rt').exists():
+        for path in sorted(source.rglob('*.rt')):
+            yield [re.sub(r'//.*', '', line) for line in read(path).split('\n')]
+
+
+def traits():
+    """The clauses of each function of our own traits, by the names of both."""
+    found = {}
+    for crate in crate_names():
+        for lines in sources_of(crate):
+            trait = None
+            for number, line in enumerate(lines):
+                if block := re.match(r'pub trait (\w+)', line):
+                    trait = block.group(1)
+                elif line == '}':
+                    trait = None
+                if trait and (name := re.match(r'\s*fn (\w+)', line)):
+                    head = head_of(lines, number)
+                    found[trait, name.group(1)] = (clauses(head, 'requires'), clauses(head, 'ensures'))
+    return found
+
+
+TRAITS = traits()
+
+
+def functions_of(crate):
+    """The public functions of a library, and those that it gives to our own traits."""
+    for lines in sources_of(crate):
+        owner, trait, members = '', None, {}
         for number, line in enumerate(lines):
-            if block := re.match(r'impl\b.*?(\w+)(?:<[^>]*>)? \{', line):
-                owner = block.group(1) + '::'
+            if block := re.match(r'impl\b(?:<[^>]*>)?(?: (\w+)(?:<[^>]*>)? for)?.*?(\w+)(?:<[^>]*>)? \{', line):
+                owner, trait, members = block.group(2) + '::', block.group(1), {}
             elif line == '}':
-                owner = ''
+                owner, trait = '', None
+            if member := re.match(r'\s*ghost (\w+) = \{ (\S+) \};', line):
+                members[member.group(1)] = member.group(2)
             if found := re.match(r'\s*pub (?:const |unsafe )*(extern "C" )?fn (\w+)', line):
                 head = head_of(lines, number)
                 yield Function(crate, owner + found.group(2), bool(found.group(1)), clauses(head, 'requires'), clauses(head, 'ensures'))
+            elif (found := re.match(r'\s*fn (\w+)', line)) and (trait, found.group(1)) in TRAITS:
+                # what the trait says, of this type's ghost members
+                requires, ensures = (
+                    [re.sub(r'\w+', lambda word: members.get(word[0], word[0]), clause) for clause in of]
+                    for of in TRAITS[trait, found.group(1)])
+                yield Function(crate, owner + found.group(1), False, requires, ensures)
 
 
 def functions():

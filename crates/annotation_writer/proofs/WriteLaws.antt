@@ -6,15 +6,15 @@ use Prim.Native.Nat.{ℕ, zero, suc, ◌+◌, ◌-◌, ◌*◌, ◌%◌, ◌^◌
 use native.Mathlib.Omega.{arith}
 use native.Mathlib.Nat.{add-zero, add-suc}
 use native.Mathlib.Numerals.{add-one}
-use borrow.Author.Tests.{eq-eqb, ne_eqb, eqb-true, le-leb, lt-leb}
+use borrow.Author.Tests.{eq-eqb, eqb-true}
 use lib.Dec.{eqb}
 use lib.ListN.{length, length-append}
 use lib.Seq.{sets}
 use lib.IntN.{ℤ}
 use mir.Syntax.{w64}
 use mir.Val.{Fits}
-use Rattle.outcome.specs.Outcome.{ok, refused, ◌>>=◌, ◌>>◌, require}
-use Rattle.outcome.specs.Store.{written}
+use Rattle.std.specs.Prelude.{Ok, Err, Some, None}
+use Rattle.outcome.specs.Outcome.{and_next, require}
 use Rattle.outcome.proofs.OutcomeLaws.{came, ok_is, passed}
 use Rattle.outcome.proofs.EachLaws.{each_none, each_more, each_stops, each_passed}
 use Rattle.store.specs.Putting.{Putting}
@@ -24,17 +24,13 @@ use Rattle.annotation_records.specs.Records.{entries_each, count, record_at, ann
 use Rattle.annotation_records.specs.Ranges.{writable}
 use Rattle.annotation_records.specs.Operands.{shorts, annotation_bytes}
 use Rattle.annotation_records.specs.Inner.{numbers_in, NumbersOf}
-use Rattle.annotation_records.proofs.OperandLaws.{numbers_few, annotation_some}
+use Rattle.annotation_records.proofs.OperandLaws.{numbers_few}
 use Rattle.annotation_records.specs.declared.record.Record.{Record}
 use Rattle.annotation_records.specs.declared.operands.Numbers.{Numbers}
 use Rattle.annotation_writer.specs.Refusal.{refusal_in}
-use Rattle.annotation_writer.specs.Writing.{annotations_in, bytes_of, list_bytes, judging, measuring, writing}
-use Rattle.annotation_writer.specs.Promises.{written_in, Writing}
-use Rattle.annotation_writer.specs.Inner.{Width, Measuring, AllWritable}
-use Rattle.annotation_writer.specs.declared.refusal.Refusal.{Refusal}
-use Rattle.annotation_writer.specs.declared.refusal.Refusal.TheVariants.{BadRecord, RaggedList, NoRoom}
-use Rattle.annotation_writer.specs.declared.write.Written.{Written}
-use Rattle.annotation_writer.specs.declared.write.Written.TheVariants.{Length, Refused}
+use Rattle.annotation_writer.specs.Writing.{annotations_in, bytes_of, list_bytes, judging, measuring}
+use Rattle.annotation_writer.specs.Inner.{Width, AllWritable}
+use Rattle.annotation_writer.specs.declared.refusal.Refusal.TheVariants.{BadRecord, RaggedList}
 
 -- ---- the bytes of annotations, one after another
 pub bytes_append : (xs ys : List Triple) → bytes_of (xs ++ ys) ≡ bytes_of xs ++ bytes_of ys
@@ -48,29 +44,21 @@ bytes_more list k = rw (add-one k, bytes_append, append-nil)
 
 -- ---- `width_at`
 module _ {q r : Record} (e : r ≡ q) {t : Bool} (i : t ≡ writable r) where
-  pub width_good : t ≡ true → {n : Numbers} → NumbersOf r n → {x : ℕ} → x ≡ length (shorts (numbers_in n)) → Width q x
-  width_good y {n} o j =
-      record { is = rw (← e, ← i, y, j, o.are); small = rw j (numbers_few n) }
+  pub width_good : t ≡ true → {n : Numbers} → NumbersOf r n → {x : ℕ} → x ≡ length (shorts (numbers_in n)) → Width q (Some x)
+  width_good y {n} o j = record { is = rw (← e, ← i, y, j, o.are); small = rw j (numbers_few n) }
 
-  pub width_bad : t ≡ false → Width q 0
-  width_bad y = record { is = rw (← e, ← i, y); small = omega arith }
+  pub width_bad : t ≡ false → Width q None
+  width_bad y = record { is = rw (← e, ← i, y); small = tt }
 
-  pub good_record : t ≡ true → writable r ≡ true
-  good_record y = sym i ∙ y
-
-pub ruleset width_cases = (width_good, width_bad, good_record)
+pub ruleset width_cases = (width_good, width_bad)
 
 -- ---- `measure`: the first k records can be written, and take `total` bytes
 pub record MeasuredSoFar (list : List ℤ) (k total : ℕ) : Type 0 where
   pub whole : length list % entries_each ≡ 0
   pub within : k ≤ count list
-  pub passed : judging list k ≡ ok tt
+  pub passed : judging list k ≡ Ok tt
   pub sum : total ≡ length (bytes_of (annotations_in list k))
   pub few : total ≤ 12 * k
-
-pub measure_ragged : (list : List ℤ) → (length list % entries_each ≡ 0 → ⊥) → Measuring list (Refused RaggedList)
-unfolding written_in measuring require ◌>>◌
-measure_ragged list h = record { answer = rw (ne_eqb (length list % entries_each) 0 h) }
 
 pub measure_none : (list : List ℤ) → length list % entries_each ≡ 0 → MeasuredSoFar list 0 0
 unfolding annotations_in bytes_of
@@ -78,47 +66,48 @@ measure_none list h =
     record { whole = h; within = omega arith; passed = each_none _ _; sum = refl; few = omega arith }
 
 module _ {list : List ℤ} {k total : ℕ} (m : MeasuredSoFar list k total) where
-  module _ (l : k < count list) {width : ℕ} (w : Width (record_at list k) width) where
-    -- the bytes fit, since the entries do, which are larger
-    pub measure_fits : length list * 8 < 2 ^ 63 → Fits w64 (total + width)
-    measure_fits h = record { fits = omega (arith, m.few, w.small) }
+  module _ (l : k < count list) where
+    module _ {width : ℕ} (w : Width (record_at list k) (Some width)) where
+      -- the bytes fit, since the entries do, which are larger
+      pub measure_fits : length list * 8 < 2 ^ 63 → Fits w64 (total + width)
+      measure_fits h = record { fits = omega (arith, m.few, w.small) }
 
-    is_bad : width ≡ 0 → writable (record_at list k) ≡ false
-    is_bad z = go (writable (record_at list k)) w.is
+      is_good : (writable (record_at list k) ≡ true) × (width ≡ length (annotation_bytes (annotation_in (record_at list k))))
+      is_good = go (writable (record_at list k)) w.is
+        where
+          go : (b : Bool) → Some width ≡ cond b (Some (length (annotation_bytes (annotation_in (record_at list k))))) None → (b ≡ true) × (width ≡ length (annotation_bytes (annotation_in (record_at list k))))
+          go true e = (refl, cc)
+          go false e = cc
+
+      pub measure_more : MeasuredSoFar list (k + 1) (total + width)
+      measure_more =
+          record {
+            whole = m.whole;
+            within = omega arith;
+            passed = each_more _ _ m.passed is_good.0;
+            sum = rw (bytes_more, length-append, ← m.sum, ← is_good.1);
+            few = omega (arith, m.few, w.small);
+          }
+
+    is_bad : Width (record_at list k) None → writable (record_at list k) ≡ false
+    is_bad w = go (writable (record_at list k)) w.is
       where
-        go : (b : Bool) → width ≡ cond b (length (annotation_bytes (annotation_in (record_at list k)))) 0 → b ≡ false
-        go true e = absurd (omega (arith, annotation_some (annotation_in (record_at list k))))
+        go : (b : Bool) → None ≡ cond b (Some (length (annotation_bytes (annotation_in (record_at list k))))) None → b ≡ false
+        go true e = cc
         go false e = refl
 
-    is_good : (width ≡ 0 → ⊥) → (writable (record_at list k) ≡ true) × (width ≡ length (annotation_bytes (annotation_in (record_at list k))))
-    is_good z = go (writable (record_at list k)) w.is
-      where
-        go : (b : Bool) → width ≡ cond b (length (annotation_bytes (annotation_in (record_at list k)))) 0 → (b ≡ true) × (width ≡ length (annotation_bytes (annotation_in (record_at list k))))
-        go true e = (refl, e)
-        go false e = absurd (z e)
+    pub measure_bad : Width (record_at list k) None → Err (refusal_in (BadRecord k)) ≡ measuring list
+    unfolding measuring require and_next
+    measure_bad w =
+        rw (eq-eqb (length list % entries_each) 0 m.whole, each_stops _ _ m.passed (is_bad w) (count list) l)
 
-    pub measure_bad : width ≡ 0 → Measuring list (Refused (BadRecord k))
-    unfolding written_in measuring require ◌>>◌
-    measure_bad z =
-        record { answer = rw (eq-eqb (length list % entries_each) 0 m.whole, each_stops _ _ m.passed (is_bad z) (count list) l) }
-
-    pub measure_more : (width ≡ 0 → ⊥) → MeasuredSoFar list (k + 1) (total + width)
-    measure_more z =
-        record {
-          whole = m.whole;
-          within = omega arith;
-          passed = each_more _ _ m.passed (is_good z).0;
-          sum = rw (bytes_more, length-append, ← m.sum, ← (is_good z).1);
-          few = omega (arith, m.few, w.small);
-        }
-
-  pub measure_end : count list ≤ k → Measuring list (Length total)
-  unfolding written_in measuring require ◌>>◌
+  pub measure_end : count list ≤ k → Ok total ≡ measuring list
+  unfolding measuring require and_next
   measure_end l =
       let same : k ≡ count list = omega (arith, m.within) in
-      record { answer = rw (eq-eqb (length list % entries_each) 0 m.whole, ← same, m.passed, m.sum) }
+      rw (eq-eqb (length list % entries_each) 0 m.whole, ← same, m.passed, m.sum)
 
-pub ruleset measure_cases = (measure_ragged, measure_none, measure_bad, measure_more, measure_end)
+pub ruleset measure_cases = (measure_none, measure_fits, measure_more, measure_bad, measure_end)
 
 -- ---- `write_all`: the bytes of the first k records are put
 module _ (list : List ℤ) where
@@ -172,7 +161,7 @@ pub record Measured (list : List ℤ) (n : ℕ) : Type 0 where
   pub all : AllWritable list
   pub is : n ≡ length (list_bytes list)
 
-pub measured : (list : List ℤ) {n : ℕ} → measuring list ≡ ok n → Measured list n
+pub measured : (list : List ℤ) {n : ℕ} → measuring list ≡ Ok n → Measured list n
 unfolding measuring
 measured list e =
     came (require (eqb (length list % entries_each) 0) (refusal_in RaggedList)) _ e λ _ first rest.
@@ -184,31 +173,11 @@ measured list e =
     }
 
 -- ---- the returns of `write_annotations`
-module _ {list : List ℤ} {r : Written} (m : Measuring list r) (out : List ℕ) where
-  pub not_measured : {why : Refusal} → r ≡ Refused why → Writing list out r out
-  unfolding written_in writing written ◌>>=◌
-  not_measured {why} e =
-      let k : measuring list ≡ refused (refusal_in why) = sym m.answer ∙ ap written_in e in
-      record { answer = m.answer ∙ rw k; after = rw k }
+module _ (list : List ℤ) {n : ℕ} (e : Ok n ≡ measuring list) where
+  pub measured_all : AllWritable list
+  measured_all = (measured list (sym e)).all
 
-  module _ {n : ℕ} (e : r ≡ Length n) where
-    measures : measuring list ≡ ok n
-    unfolding written_in
-    measures = sym m.answer ∙ ap written_in e
+  pub listed_room : (m : ℕ) → n ≤ m → length (list_bytes list) ≤ m
+  listed_room m l = rw (← (measured list (sym e)).is) l
 
-    pub measured_all : AllWritable list
-    measured_all = (measured list measures).all
-
-    pub no_room : length out < n → Writing list out (Refused (NoRoom n)) out
-    unfolding written_in writing written require ◌>>=◌ ◌>>◌
-    no_room l = record { answer = rw (measures, lt-leb n (length out) l); after = rw (measures, lt-leb n (length out) l) }
-
-    module _ (l : n ≤ length out) where
-      pub listed_room : length (list_bytes list) ≤ length out
-      listed_room = rw (← (measured list measures).is) l
-
-      pub all_written : {out' : List ℕ} → out' ≡ sets out 0 (list_bytes list) → Writing list out (Length n) out'
-      unfolding written_in writing written require ◌>>=◌ ◌>>◌
-      all_written f = record { answer = rw (measures, le-leb n (length out) l); after = f ∙ rw (measures, le-leb n (length out) l) }
-
-pub ruleset returns_cases = (not_measured, measured_all, no_room, listed_room, all_written)
+pub ruleset returns_cases = (measured_all, listed_room)

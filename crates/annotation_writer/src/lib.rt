@@ -9,4 +9,4 @@ mod refusal;
 mod write;
 
 pub use refusal::Refusal;
-pub use write::{Written, write_annotations};
+pub use write::write_annotations;

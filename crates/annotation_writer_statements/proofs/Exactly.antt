@@ -10,7 +10,8 @@ use lib.Dec.{T, eqb, leb}
 use lib.ListN.{length}
 use lib.IntN.{ℤ, pos, neg_ℤ}
 use lib.Signed.{le_z}
-use Rattle.outcome.specs.Outcome.{Outcome, ok, refused, ◌>>=◌, ◌>>◌, require}
+use Rattle.std.specs.Prelude.{Result, Ok, Err}
+use Rattle.outcome.specs.Outcome.{and_next, and_then, ◌>>◌, require}
 use Rattle.outcome.specs.Refusal as paper
 use Rattle.outcome.proofs.OutcomeLaws.{and_true, below_or, ok_is, ok_refused, refused_is}
 use Rattle.outcome.proofs.EachLaws.{each_decides, each_stops, each_passed}
@@ -117,18 +118,18 @@ carries_exactly =
     }
 
 -- ---- what `writing` answers is one of four things
-data Answer (list : List ℤ) (room : ℕ) : Outcome paper.Refusal ℕ → Type 0 where
-  ragged : (length list % entries_each ≡ 0 → ⊥) → Answer list room (refused (refusal_in RaggedList))
-  bad : {k : ℕ} → FirstBad list k → Answer list room (refused (refusal_in (BadRecord k)))
-  over : FineTo list (count list) → room < length (list_bytes list) → Answer list room (refused (refusal_in (NoRoom (length (list_bytes list)))))
-  fits : FineTo list (count list) → length (list_bytes list) ≤ room → Answer list room (ok (length (list_bytes list)))
+data Answer (list : List ℤ) (room : ℕ) : Result ℕ paper.Refusal → Type 0 where
+  ragged : (length list % entries_each ≡ 0 → ⊥) → Answer list room (Err (refusal_in RaggedList))
+  bad : {k : ℕ} → FirstBad list k → Answer list room (Err (refusal_in (BadRecord k)))
+  over : FineTo list (count list) → room < length (list_bytes list) → Answer list room (Err (refusal_in (NoRoom (length (list_bytes list)))))
+  fits : FineTo list (count list) → length (list_bytes list) ≤ room → Answer list room (Ok (length (list_bytes list)))
 
 module _ (list : List ℤ) (room : ℕ) where
   answer : Answer list room (writing list room)
-  unfolding writing measuring require ◌>>=◌ ◌>>◌
+  unfolding writing measuring require and_then and_next
   answer = by_length (eqb (length list % entries_each) 0) refl
     where
-      by_room : (b : Bool) → leb (length (list_bytes list)) room ≡ b → FineTo list (count list) → Answer list room (require b (refusal_in (NoRoom (length (list_bytes list)))) >> ok (length (list_bytes list)))
+      by_room : (b : Bool) → leb (length (list_bytes list)) room ≡ b → FineTo list (count list) → Answer list room (require b (refusal_in (NoRoom (length (list_bytes list)))) >> Ok (length (list_bytes list)))
       by_room true e f = fits f (leb-true _ _ e)
       by_room false e f = over f (leb-false _ _ e)
 
@@ -137,17 +138,17 @@ module _ (list : List ℤ) (room : ℕ) where
       by_length true e =
           let whole = eqb-true (length list % entries_each) 0 e in
           ⊎_elim
-          (λ (p : judging list (count list) ≡ ok tt). rw (e, p) (by_room (leb (length (list_bytes list)) room) refl (record { whole = whole; each = each_passed _ _ (count list) p })))
-          (λ (p : (k : ℕ) × ((k < count list) × ((judging list k ≡ ok tt) × (writable (record_at list k) ≡ false)))).
+          (λ (p : judging list (count list) ≡ Ok tt). rw (e, p) (by_room (leb (length (list_bytes list)) room) refl (record { whole = whole; each = each_passed _ _ (count list) p })))
+          (λ (p : (k : ℕ) × ((k < count list) × ((judging list k ≡ Ok tt) × (writable (record_at list k) ≡ false)))).
           let stops = each_stops _ _ p.1.1.0 p.1.1.1 (count list) p.1.0 in
           rw (e, stops) (bad (record { before = record { whole = whole; each = each_passed _ _ p.0 p.1.1.0 }; there = let l = p.1.0 in omega arith; bad = p.1.1.1 })))
           (each_decides (λ k. writable (record_at list k)) (λ k. refusal_in (BadRecord k)) (count list))
 
 -- refusals that are equal have one number and one value
-number_of : {x y : paper.Refusal} → ◌≡◌ {A = Outcome paper.Refusal ℕ} (refused x) (refused y) → x.number ≡ y.number
+number_of : {x y : paper.Refusal} → ◌≡◌ {A = Result ℕ paper.Refusal} (Err x) (Err y) → x.number ≡ y.number
 number_of e = ap (λ (w : paper.Refusal). w.number) (refused_is e)
 
-value_of : {x y : paper.Refusal} → ◌≡◌ {A = Outcome paper.Refusal ℕ} (refused x) (refused y) → x.value ≡ y.value
+value_of : {x y : paper.Refusal} → ◌≡◌ {A = Result ℕ paper.Refusal} (Err x) (Err y) → x.value ≡ y.value
 value_of e = ap (λ (w : paper.Refusal). w.value) (refused_is e)
 
 -- two first bad records are one
@@ -165,32 +166,32 @@ module _ (list : List ℤ) (room : ℕ) where
   abbrev L : ℕ
   L = length (list_bytes list)
 
-  ragged_exactly : (o : Outcome paper.Refusal ℕ) → Answer list room o → (o ≡ refused (refusal_in RaggedList)) ↔ (length list % entries_each ≡ 0 → ⊥)
+  ragged_exactly : (o : Result ℕ paper.Refusal) → Answer list room o → (o ≡ Err (refusal_in RaggedList)) ↔ (length list % entries_each ≡ 0 → ⊥)
   ragged_exactly _ (ragged h) = (λ _. h, λ _. refl)
   ragged_exactly _ (bad f) = (λ e. absurd (omega (arith, number_of e)), λ h. absurd (h f.before.whole))
   ragged_exactly _ (over f l) = (λ e. absurd (omega (arith, number_of e)), λ h. absurd (h f.whole))
   ragged_exactly _ (fits f l) = (λ e. absurd (ok_refused e), λ h. absurd (h f.whole))
 
-  bad_exactly : (k : ℕ) (o : Outcome paper.Refusal ℕ) → Answer list room o → (o ≡ refused (refusal_in (BadRecord k))) ↔ FirstBad list k
+  bad_exactly : (k : ℕ) (o : Result ℕ paper.Refusal) → Answer list room o → (o ≡ Err (refusal_in (BadRecord k))) ↔ FirstBad list k
   bad_exactly k _ (ragged h) = (λ e. absurd (omega (arith, number_of e)), λ g. absurd (h g.before.whole))
   bad_exactly k _ (bad {k = j} f) =
-      (λ e. let same : j ≡ k = value_of e in rw (← same) f, λ g. ap (λ i. refused (refusal_in (BadRecord i))) (same_first f g))
+      (λ e. let same : j ≡ k = value_of e in rw (← same) f, λ g. ap (λ i. Err (refusal_in (BadRecord i))) (same_first f g))
   bad_exactly k _ (over f l) = (λ e. absurd (omega (arith, number_of e)), λ g. absurd (clash f g.there g.bad))
   bad_exactly k _ (fits f l) = (λ e. absurd (ok_refused e), λ g. absurd (clash f g.there g.bad))
 
-  no_room_exactly : (n : ℕ) (o : Outcome paper.Refusal ℕ) → Answer list room o → (o ≡ refused (refusal_in (NoRoom n))) ↔ (FineTo list (count list) × ((n ≡ L) × (room < n)))
+  no_room_exactly : (n : ℕ) (o : Result ℕ paper.Refusal) → Answer list room o → (o ≡ Err (refusal_in (NoRoom n))) ↔ (FineTo list (count list) × ((n ≡ L) × (room < n)))
   no_room_exactly n _ (ragged h) = (λ e. absurd (omega (arith, number_of e)), λ p. absurd (h p.0.whole))
   no_room_exactly n _ (bad f) = (λ e. absurd (omega (arith, number_of e)), λ p. absurd (clash p.0 f.there f.bad))
   no_room_exactly n _ (over f l) =
-      (λ e. let same : L ≡ n = value_of e in (f, (sym same, omega arith)), λ p. ap (λ i. refused (refusal_in (NoRoom i))) (sym p.1.0))
+      (λ e. let same : L ≡ n = value_of e in (f, (sym same, omega arith)), λ p. ap (λ i. Err (refusal_in (NoRoom i))) (sym p.1.0))
   no_room_exactly n _ (fits f l) = (λ e. absurd (ok_refused e), λ p. absurd (omega (arith, p.1.0, p.1.1)))
 
-  accepted_exactly : (n : ℕ) (o : Outcome paper.Refusal ℕ) → Answer list room o → (o ≡ ok n) ↔ (FineTo list (count list) × ((n ≡ L) × (n ≤ room)))
+  accepted_exactly : (n : ℕ) (o : Result ℕ paper.Refusal) → Answer list room o → (o ≡ Ok n) ↔ (FineTo list (count list) × ((n ≡ L) × (n ≤ room)))
   accepted_exactly n _ (ragged h) = (λ e. absurd (ok_refused (sym e)), λ p. absurd (h p.0.whole))
   accepted_exactly n _ (bad f) = (λ e. absurd (ok_refused (sym e)), λ p. absurd (clash p.0 f.there f.bad))
   accepted_exactly n _ (over f l) = (λ e. absurd (ok_refused (sym e)), λ p. absurd (omega (arith, p.1.0, p.1.1)))
   accepted_exactly n _ (fits f l) =
-      (λ e. let same : L ≡ n = ok_is e in (f, (sym same, omega arith)), λ p. ap ok (sym p.1.0))
+      (λ e. let same : L ≡ n = ok_is e in (f, (sym same, omega arith)), λ p. ap Ok (sym p.1.0))
 
 pub refused_exactly : RefusedExactly
 refused_exactly =

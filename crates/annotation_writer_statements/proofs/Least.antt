@@ -1,26 +1,26 @@
 -- No bytes that decode to the same annotations are fewer: each number that is read takes at least its shortest form, and
 -- the operands that are written are no larger than those that were read.
-use mathlib.Core.Bool.{Bool, true, false, cond}
-use mathlib.Core.List.{List, [], ◌∷◌, append-nil, map}
+use mathlib.Core.List.{List, ◌∷◌, append-nil, map}
 use Prim.Native.Nat.{ℕ, zero, suc, ◌+◌, ◌^◌, ◌≤◌, ◌<◌}
 use native.Mathlib.Omega.{arith}
-use lib.Dec.{eqb}
 use lib.ListN.{length, length-append}
 use lib.IntN.{ℤ, nat_abs}
+use Rattle.std.specs.Prelude.{Option, Some, None, IfSome, option_to_list}
 use Rattle.annotations.specs.Step.{PlacedTriple}
 use Rattle.annotations.proofs.ReadLaws.{Read, one, two, step_read}
 use Rattle.annotations.proofs.MoveLaws.{advanced}
 use Rattle.annotations_statements.specs.Statements.{StepsTo}
 use Rattle.annotations_statements.proofs.Statements.{agreement}
 use Rattle.shortest.specs.Short.{Bytes}
-use Rattle.shortest.proofs.ReadLaws.{short_reads, short_rises, number_least, AllBytes, all_append, bytes_at_lem, short_bytes}
+use Rattle.shortest.proofs.ReadLaws.{short_reads, short_rises, number_least, short_bytes}
+use Rattle.shortest.proofs.ShortLaws.{AllBytes, all_append, bytes_at_lem}
 use Rattle.annotation_records.specs.Records.{count, record_at, annotation_in}
 use Rattle.annotation_records.specs.Operands.{shorts, annotation_bytes}
-use Rattle.annotation_records.specs.Inner.{first_operand, numbers_in, HaveForms}
+use Rattle.annotation_records.specs.Inner.{first_operand, second_operand, numbers_in, HaveForms}
 use Rattle.annotation_records.specs.declared.record.Record.{Record}
 use Rattle.annotation_records.specs.declared.operands.Numbers.{Numbers}
 use Rattle.annotation_records.proofs.RangeLaws.{Writable, can_be_written}
-use Rattle.annotation_records.proofs.OperandLaws.{second_small, first_form, numbers_are}
+use Rattle.annotation_records.proofs.OperandLaws.{first_form, second_form, numbers_are}
 use Rattle.annotation_writer.specs.Writing.{annotations_in, bytes_of}
 use Rattle.annotation_writer.specs.Inner.{AllWritable}
 use Rattle.annotation_writer.proofs.WriteLaws.{bytes_append}
@@ -54,18 +54,17 @@ steps_within {s} {at} h (StepsTo.more e r) = steps_within (advanced s at e).with
 -- ---- what is written are bytes
 shorts_bytes : (n : Numbers) → HaveForms n → AllBytes (shorts (numbers_in n))
 unfolding shorts
-shorts_bytes n f = go (eqb n.opcode 12)
+shorts_bytes n f = go n.second f.second
   where
-    go : (b : Bool) → AllBytes (shorts (cond b (n.opcode ∷ n.first ∷ n.second ∷ []) (n.opcode ∷ n.first ∷ [])))
-    go true = all_append (short_bytes _ f.opcode) (all_append (short_bytes _ f.first) (all_append (short_bytes _ f.second) AllBytes.none))
-    go false = all_append (short_bytes _ f.opcode) (all_append (short_bytes _ f.first) AllBytes.none)
+    go : (second : Option ℕ) → IfSome second (λ m. m < 2 ^ 29) → AllBytes (shorts (n.opcode ∷ n.first ∷ option_to_list second))
+    go (Some m) h = all_append (short_bytes _ f.opcode) (all_append (short_bytes _ f.first) (all_append (short_bytes m h) AllBytes.none))
+    go None h = all_append (short_bytes _ f.opcode) (all_append (short_bytes _ f.first) AllBytes.none)
 
 record_bytes : (r : Record) → Writable r → AllBytes (annotation_bytes (annotation_in r))
 record_bytes r w =
-    let n : Numbers = record { opcode = nat_abs r.opcode; first = first_operand (nat_abs r.opcode) r.first r.second; second = nat_abs r.second } in
+    let n : Numbers = record { opcode = nat_abs r.opcode; first = first_operand (nat_abs r.opcode) r.first r.second; second = second_operand (nat_abs r.opcode) r.second } in
     let small : nat_abs r.opcode < 2 ^ 29 = let k = w.known in omega arith in
-    let second : nat_abs r.second < 2 ^ 29 = let k = second_small w.carries in omega arith in
-    rw (numbers_are w.carries) at (shorts_bytes n (record { opcode = small; first = first_form w.carries; second = second }))
+    rw (numbers_are w.carries) at (shorts_bytes n (record { opcode = small; first = first_form w.carries; second = second_form w.carries }))
 
 list_bytes_lem : (list : List ℤ) → AllWritable list → (k : ℕ) → k ≤ count list → AllBytes (bytes_of (annotations_in list k))
 unfolding annotations_in bytes_of

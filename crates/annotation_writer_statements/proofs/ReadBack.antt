@@ -9,7 +9,7 @@ use native.Mathlib.Nat.{add-zero, zero-add}
 use borrow.Author.Tests.{eq-eqb, ne_eqb}
 use lib.ListN.{length, length-append}
 use lib.IntN.{ℤ, pos, negsuc, nat_abs}
-use Rattle.outcome.specs.Outcome.{ok}
+use Rattle.std.specs.Prelude.{Ok}
 use Rattle.numbers.specs.Number.{number_at}
 use Rattle.annotations.specs.Signed.{signed_of}
 use Rattle.annotations.specs.Annotation.{triple, annotation_of}
@@ -43,28 +43,28 @@ module _ (op v : ℕ) (some : 1 ≤ op) (known : op ≤ 13) (small : v < 2 ^ 29)
   opcode_read w =
       rw zero-add at (code_known (short op ++ w) 0 (rw length-append (omega (arith, short_some op))) (short_reads_first w op (omega arith)) (λ z. omega arith) known)
 
-  operand_read : (w : List ℕ) → number_at (short op ++ (short v ++ w)) (length (short op)) ≡ ok (short_number (length (short op)) v)
+  operand_read : (w : List ℕ) → number_at (short op ++ (short v ++ w)) (length (short op)) ≡ Ok (short_number (length (short op)) v)
   operand_read w = short_reads_in (short op) w v small
 
-  step_one : (op ≡ 12 → ⊥) → step_at (shorts (op ∷ v ∷ [])) 0 ≡ ok (annotation (placed (annotation_of op v 0) true (length (shorts (op ∷ v ∷ [])))))
+  step_one : (op ≡ 12 → ⊥) → step_at (shorts (op ∷ v ∷ [])) 0 ≡ Ok (annotation (placed (annotation_of op v 0) true (length (shorts (op ∷ v ∷ [])))))
   unfolding shorts
   step_one n =
       let b = short op ++ (short v ++ []) in
       let place : length (short op) + length (short v) ≡ length b = rw (length-append, length-append) (omega arith) in
       opcode_read (short v ++ []) ∙ one_operand b op true (length (short op)) (operand_read []) n ∙ rw place
 
-  step_two : (w : ℕ) → w < 2 ^ 29 → op ≡ 12 → step_at (shorts (op ∷ v ∷ w ∷ [])) 0 ≡ ok (annotation (placed (annotation_of op v w) true (length (shorts (op ∷ v ∷ w ∷ [])))))
+  step_two : (w : ℕ) → w < 2 ^ 29 → op ≡ 12 → step_at (shorts (op ∷ v ∷ w ∷ [])) 0 ≡ Ok (annotation (placed (annotation_of op v w) true (length (shorts (op ∷ v ∷ w ∷ [])))))
   unfolding shorts
   step_two w l t =
       let b = short op ++ (short v ++ (short w ++ [])) in
       let place : length (short op) + length (short v) + length (short w) ≡ length b = rw (length-append, length-append, length-append) (omega arith) in
-      let second : number_at b (length (short op) + length (short v)) ≡ ok (short_number (length (short op) + length (short v)) w) =
+      let second : number_at b (length (short op) + length (short v)) ≡ Ok (short_number (length (short op) + length (short v)) w) =
       rw (append_assoc, length-append) at (short_reads_in (short op ++ short v) [] w l) in
       opcode_read (short v ++ (short w ++ [])) ∙ two_operands b op true (length (short op)) (operand_read (short w ++ [])) t second ∙ rw place
 
 -- ---- a record
 module _ {op : ℕ} {first second : ℤ} (some : 1 ≤ op) (known : op ≤ 13) where
-  carried_reads : Carried op first second → step_at (annotation_bytes (triple op first second)) 0 ≡ ok (annotation (placed (triple op first second) true (length (annotation_bytes (triple op first second)))))
+  carried_reads : Carried op first second → step_at (annotation_bytes (triple op first second)) 0 ≡ Ok (annotation (placed (triple op first second) true (length (annotation_bytes (triple op first second)))))
   unfolding operands_of annotation_of
   carried_reads (signed h n l z) =
       let small : operand_of first < 2 ^ 29 = omega (arith, operand_most first) in
@@ -88,13 +88,13 @@ module _ {op : ℕ} {first second : ℤ} (some : 1 ≤ op) (known : op ≤ 13) w
       rw (ne_eqb op 6 (λ t. true≢false (ap is_signed (sym t) ∙ h)), ne_eqb op 10 (λ t. true≢false (ap is_signed (sym t) ∙ h)), ne_eqb op 11 n, ne_eqb op 12 k, ← e, z) in
       rw (h, ne_eqb op 11 n, ne_eqb op 12 k) (step_one op (nat_abs first) some known (omega arith) k ∙ rw back)
 
-pub record_reads : (r : Record) → Writable r → step_at (annotation_bytes (annotation_in r)) 0 ≡ ok (annotation (placed (annotation_in r) true (length (annotation_bytes (annotation_in r)))))
+pub record_reads : (r : Record) → Writable r → step_at (annotation_bytes (annotation_in r)) 0 ≡ Ok (annotation (placed (annotation_in r) true (length (annotation_bytes (annotation_in r)))))
 record_reads r w = carried_reads w.some w.known w.carries
 
 -- ---- a list of annotations, each of which is read back
 pub data Readable : List Triple → Type 0 where
   none : Readable []
-  more : {t : Triple} {later : List Triple} → step_at (annotation_bytes t) 0 ≡ ok (annotation (placed t true (length (annotation_bytes t)))) → Readable later → Readable (t ∷ later)
+  more : {t : Triple} {later : List Triple} → step_at (annotation_bytes t) 0 ≡ Ok (annotation (placed t true (length (annotation_bytes t)))) → Readable later → Readable (t ∷ later)
 
 pub readable_append : {xs ys : List Triple} → Readable xs → Readable ys → Readable (xs ++ ys)
 readable_append none q = q
@@ -122,13 +122,13 @@ unfolding bytes_of standing
 steps u [] none = rw append-nil StepsTo.none
 steps u (t ∷ later) (more e p) =
     let b = annotation_bytes t in
-    let first : step_at (b ++ bytes_of later) 0 ≡ ok (annotation (placed t true (length b))) = more_bytes.found b (bytes_of later) 0 e in
-    let here : step_at (u ++ (b ++ bytes_of later)) (length u) ≡ ok (annotation (placed t true (length u + length b))) =
+    let first : step_at (b ++ bytes_of later) 0 ≡ Ok (annotation (placed t true (length b))) = more_bytes.found b (bytes_of later) 0 e in
+    let here : step_at (u ++ (b ++ bytes_of later)) (length u) ≡ Ok (annotation (placed t true (length u + length b))) =
     rw (add-zero (length u)) at (from_a_place.found u (b ++ bytes_of later) 0 first) in
     StepsTo.more here (rw (append_assoc, length-append u b) at (steps (u ++ b) later p))
 
 -- the run of decoding them all
-pub decoded : (ts : List Triple) → Readable ts → record { found = standing 0 ts; at = length (bytes_of ts); last = ok (length (bytes_of ts)) } ≡ decode_all (bytes_of ts)
+pub decoded : (ts : List Triple) → Readable ts → record { found = standing 0 ts; at = length (bytes_of ts); last = Ok (length (bytes_of ts)) } ≡ decode_all (bytes_of ts)
 decoded ts p =
     let b = bytes_of ts in
     agreement.only b _ (record { steps = steps [] ts p; closes = past_end b (length b) (omega arith) })

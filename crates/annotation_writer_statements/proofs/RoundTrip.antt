@@ -10,7 +10,8 @@ use lib.Dec.{leb}
 use lib.ListN.{length, get_or, take, drop, length-append}
 use lib.Seq.{sets-eq, take-suc, take_all, take_at, drop_at}
 use lib.IntN.{ℤ, pos}
-use Rattle.outcome.specs.Outcome.{ok, require}
+use Rattle.std.specs.Prelude.{Ok}
+use Rattle.outcome.specs.Outcome.{require, raise}
 use Rattle.outcome.specs.Store.{written}
 use Rattle.outcome.proofs.OutcomeLaws.{came, came_by, passed, ok_is}
 use Rattle.annotations.specs.Step.{PlacedTriple}
@@ -23,10 +24,9 @@ use Rattle.annotation_records.specs.Records.{entries_each, count, record_at}
 use Rattle.annotation_records.proofs.RangeLaws.{can_be_written}
 use Rattle.annotation_writer.specs.Refusal.{refusal_in}
 use Rattle.annotation_writer.specs.Writing.{annotations_in, list_bytes, measuring, writing}
-use Rattle.annotation_writer.specs.Promises.{written_in, Writing}
+use Rattle.annotation_writer.specs.Promises.{Writing}
 use Rattle.annotation_writer.specs.Inner.{AllWritable}
 use Rattle.annotation_writer.specs.declared.refusal.Refusal.TheVariants.{NoRoom}
-use Rattle.annotation_writer.specs.declared.write.Written.TheVariants.{Length}
 use Rattle.annotation_writer.proofs.WriteLaws.{Measured, measured}
 use Rattle.annotation_writer_statements.specs.Statements.{listed, found_in, RoundTrip, with_ones, SameEntries}
 use Rattle.annotation_writer_statements.proofs.ReadBack.{Readable, none, more, readable_append, record_reads, standing, standing_triples, standing_shortest, decoded}
@@ -36,7 +36,7 @@ pub record Accepted (list : List ℤ) (room n : ℕ) : Type 0 where
   pub list_measured : Measured list n
   pub room_enough : n ≤ room
 
-pub accepted : (list : List ℤ) (room n : ℕ) → writing list room ≡ ok n → Accepted list room n
+pub accepted : (list : List ℤ) (room n : ℕ) → writing list room ≡ Ok n → Accepted list room n
 unfolding writing
 accepted list room n e =
     came_by (measuring list) _ e λ k m rest.
@@ -45,9 +45,9 @@ accepted list room n e =
     rw (← same) (record { list_measured = measured list m; room_enough = leb-true k room (passed _ _ fits) })
 
 -- ---- the store
-module _ (list : List ℤ) (out out' : List ℕ) (n : ℕ) (w : Writing list out (Length n) out') where
-  answers : writing list (length out) ≡ ok n
-  unfolding written_in
+module _ (list : List ℤ) (out out' : List ℕ) (n : ℕ) (w : Writing list out (Ok n) out') where
+  answers : writing list (length out) ≡ Ok n
+  unfolding raise
   answers = sym w.answer
 
   stands : out' ≡ list_bytes list ++ drop n out
@@ -75,11 +75,11 @@ readable list a (suc k) l =
     readable_append (readable list a k (omega arith))
     (more (record_reads (record_at list k) (can_be_written (record_at list k) (a.each k (omega arith)))) none)
 
-module _ (list : List ℤ) (room n : ℕ) (e : writing list room ≡ ok n) where
+module _ (list : List ℤ) (room n : ℕ) (e : writing list room ≡ Ok n) where
   pub fine : Measured list n
   fine = (accepted list room n e).list_measured
 
-  run : record { found = standing 0 (listed list); at = length (list_bytes list); last = ok (length (list_bytes list)) } ≡ decode_all (list_bytes list)
+  run : record { found = standing 0 (listed list); at = length (list_bytes list); last = Ok (length (list_bytes list)) } ≡ decode_all (list_bytes list)
   run = decoded (listed list) (readable list fine.all (count list) (omega arith))
 
   finds : found_in (decode_all (list_bytes list)) ≡ listed list
@@ -91,8 +91,8 @@ module _ (list : List ℤ) (room n : ℕ) (e : writing list room ≡ ok n) where
   closes_at : (decode_all (list_bytes list)).at ≡ n
   closes_at = rw (← run) (sym fine.is)
 
-  ends_at : (decode_all (list_bytes list)).last ≡ ok n
-  ends_at = rw (← run) (ap ok (sym fine.is))
+  ends_at : (decode_all (list_bytes list)).last ≡ Ok n
+  ends_at = rw (← run) (ap Ok (sym fine.is))
 
 pub round_trip : RoundTrip
 round_trip =
@@ -141,7 +141,7 @@ unfolding annotations_in
 listed_length list zero = refl
 listed_length list (suc k) = rw (length-append, listed_length list k) (omega arith)
 
-module _ (list : List ℤ) (room n : ℕ) (e : writing list room ≡ ok n) where
+module _ (list : List ℤ) (room n : ℕ) (e : writing list room ≡ Ok n) where
   thrice : entries_each * count list ≡ length list
   thrice = let w = (fine list room n e).whole in omega arith
 
@@ -153,7 +153,7 @@ module _ (list : List ℤ) (room n : ℕ) (e : writing list room ≡ ok n) where
   same_entries_again =
       rw (← run list room n e) (entries_flat 0 (listed list) ∙ rw (same_list, listed_length list (count list)))
 
-  decodes_again : (room' : ℕ) → decode.entries_each * count list ≤ room' → decoding (list_bytes list) room' ≡ ok (count list)
+  decodes_again : (room' : ℕ) → decode.entries_each * count list ≤ room' → decoding (list_bytes list) room' ≡ Ok (count list)
   decodes_again room' l =
       (decode_exactly.is (list_bytes list) room' (count list)).1
       (rw (← run list room n e) (sym (standing_length 0 (listed list) ∙ listed_length list (count list))), (n, ends_at list room n e), l)

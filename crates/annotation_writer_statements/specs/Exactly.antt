@@ -1,6 +1,5 @@
 -- Request 2026-01: each refusal of a list comes exactly under its condition, in the order 21, 20, 10.
-use Rattle.std.specs.Prelude.{◌≡◌, ◌⊎◌, ◌↔◌, true, false, List, ℕ, ◌%◌, ◌≤◌, ◌<◌, length, ℤ, pos, neg_ℤ, ◌≤ℤ◌}
-use Rattle.outcome.specs.Outcome.{ok, refused}
+use Rattle.std.specs.Prelude.{◌≡◌, ◌⊎◌, ◌↔◌, true, false, List, ℕ, ◌%◌, ◌≤◌, ◌<◌, length, ℤ, pos, neg_ℤ, ◌≤ℤ◌, Ok, Err}
 use Rattle.annotation_records.specs.Records.{entries_each, count, record_at}
 use Rattle.annotation_records.specs.Ranges.{writable}
 use Rattle.annotation_records.specs.declared.record.Record.{Record}
@@ -46,9 +45,9 @@ pub record FirstBad (list : List ℤ) (k : ℕ) : Type 0 where
 
 pub record RefusedExactly : Type 0 where
   pub ragged : (list : List ℤ) (room : ℕ)
-      → (writing list room ≡ refused (refusal_in RaggedList)) ↔ (length list % entries_each ≡ 0 → ⊥)
-  pub bad : (list : List ℤ) (room k : ℕ) → (writing list room ≡ refused (refusal_in (BadRecord k))) ↔ FirstBad list k
-  pub no_room : (list : List ℤ) (room n : ℕ) → (writing list room ≡ refused (refusal_in (NoRoom n)))
+      → (writing list room ≡ Err (refusal_in RaggedList)) ↔ (length list % entries_each ≡ 0 → ⊥)
+  pub bad : (list : List ℤ) (room k : ℕ) → (writing list room ≡ Err (refusal_in (BadRecord k))) ↔ FirstBad list k
+  pub no_room : (list : List ℤ) (room n : ℕ) → (writing list room ≡ Err (refusal_in (NoRoom n)))
       ↔ (FineTo list (count list) × ((n ≡ length (list_bytes list)) × (room < n)))
-  pub accepted : (list : List ℤ) (room n : ℕ) → (writing list room ≡ ok n)
+  pub accepted : (list : List ℤ) (room n : ℕ) → (writing list room ≡ Ok n)
       ↔ (FineTo list (count list) × ((n ≡ length (list_bytes list)) × (n ≤ room)))

@@ -1,4 +1,3 @@
-pub mod SignedLaws
 pub mod AnnotationLaws
 pub mod StepLaws
 pub mod ReadLaws

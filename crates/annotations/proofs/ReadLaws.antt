@@ -7,7 +7,8 @@ use native.Mathlib.Omega.{arith}
 use borrow.Author.Tests.{eqb-false, leb-true}
 use lib.Dec.{leb, eqb}
 use lib.ListN.{length}
-use Rattle.outcome.specs.Outcome.{Outcome, ok, require}
+use Rattle.std.specs.Prelude.{Result, Ok}
+use Rattle.outcome.specs.Outcome.{require}
 use Rattle.outcome.proofs.OutcomeLaws.{by_test, came, came_by, passed}
 use Rattle.numbers.specs.Refusal.{Stop}
 use Rattle.numbers.specs.Number.{number_at}
@@ -16,7 +17,7 @@ use Rattle.annotations.specs.Annotation.{annotation_of}
 use Rattle.annotations.specs.Step.{PlacedTriple, placed, Stepped, annotation, end, operands, step_at}
 
 pub record Opcode (s : List ℕ) (at : ℕ) (code : Number) : Type 0 where
-  pub is : number_at s at ≡ ok code
+  pub is : number_at s at ≡ Ok code
   pub some : 1 ≤ code.value
   pub known : code.value ≤ 13
 
@@ -29,13 +30,13 @@ with_two_operands code v w =
     placed (annotation_of code.value v.value w.value) (code.shortest && v.shortest && w.shortest) w.next
 
 pub data Read (s : List ℕ) (at : ℕ) : PlacedTriple → Type 0 where
-  one : {code v : Number} → Opcode s at code → number_at s code.next ≡ ok v → eqb code.value 12 ≡ false
+  one : {code v : Number} → Opcode s at code → number_at s code.next ≡ Ok v → eqb code.value 12 ≡ false
       → Read s at (with_one_operand code v)
-  two : {code v w : Number} → Opcode s at code → number_at s code.next ≡ ok v → number_at s v.next ≡ ok w
+  two : {code v w : Number} → Opcode s at code → number_at s code.next ≡ Ok v → number_at s v.next ≡ Ok w
       → eqb code.value 12 ≡ true
       → Read s at (with_two_operands code v w)
 
-pub step_read : (s : List ℕ) (at : ℕ) {x : PlacedTriple} → step_at s at ≡ ok (annotation x) → Read s at x
+pub step_read : (s : List ℕ) (at : ℕ) {x : PlacedTriple} → step_at s at ≡ Ok (annotation x) → Read s at x
 unfolding step_at operands
 step_read s at {x} =
     by_test P (leb (length s) at) (λ _ e. no_end e)
@@ -50,11 +51,11 @@ step_read s at {x} =
     (λ k j. came_by (number_at s v.next) _ j λ w l m. is _ (two opcode d l k) m)
     (λ k j. is _ (one opcode d k) j) i) f)
   where
-    P : Outcome Stop Stepped → Type 0
-    P o = o ≡ ok (annotation x) → Read s at x
+    P : Result Stepped Stop → Type 0
+    P o = o ≡ Ok (annotation x) → Read s at x
 
-    is : (y : PlacedTriple) → Read s at y → P (ok (annotation y))
+    is : (y : PlacedTriple) → Read s at y → P (Ok (annotation y))
     is y h e = let f : y ≡ x = cc in rw (← f) h
 
-    no_end : {p : ℕ} → P (ok (end p))
+    no_end : {p : ℕ} → P (Ok (end p))
     no_end e = absurd (let z : ◌≡◌ {A = ℕ} 0 1 = cc in omega arith)

@@ -8,6 +8,6 @@ mod annotation;
 mod operands;
 mod step;
 
-pub use annotation::{BinaryAnnotation, FileIndex, Triple, decode_signed_operand, long, wide};
-pub use operands::{OperandStep, Operands, operands_at};
+pub use annotation::{BinaryAnnotation, FileIndex, Triple, decode_signed_operand};
+pub use operands::{Operands, operands_at};
 pub use step::{Annotated, Step, step_at};

@@ -1,14 +1,18 @@
 // An opcode and its operands as they stand in the bytes, before they are made into anything: `step_at` makes a variant
 // of them, the boundary three numbers. Whether each of them has its shortest form is passed on.
-ghost use Rattle.std.specs.Prelude.{◌≤◌};
+//
+// This is the one place that reads annotations. A caller that wants less of them (where they end, say) gets its own
+// copy, of which the compiler leaves out what it does not use.
+ghost use Rattle.std.specs.Prelude.{◌≡◌};
 ghost use Rattle.annotations.specs.Step.{operands};
-ghost use Rattle.annotations.specs.Inner.{ReadAs, Reading};
+ghost use Rattle.annotations.specs.Inner.{HasOperands, Reads, Reading};
 
-use numbers::{PlacedRefusal, Refusal, is_shortest, value_at, why_at, width_at};
+use crate::step::Step;
+use numbers::{Number, PlacedRefusal, Refusal, uncompress_next};
 
-// An opcode of 1 to 13, its operands as they were read, whether all these numbers were shortest, and the place after
-// them. Only 12 has the second operand.
-#[derive(Clone, Copy)]
+/// An opcode of 1 to 13, its operands as they were read, whether all these numbers were shortest, and the place after
+/// them. Only 12 has the second operand.
+#[derive(Clone, Copy, Debug, PartialEq, Eq)]
 pub struct Operands {
     pub opcode: u32,
     pub first: u32,
@@ -17,75 +21,65 @@ pub struct Operands {
     pub next: usize,
 }
 
-// What a step reads, always with the place after it.
-#[derive(Clone, Copy)]
-pub enum OperandStep {
-    Annotation(Operands),
-    End(usize),
-    Refused(PlacedRefusal),
-}
-
-// Reads the opcode at `at` and its operands. Refuses with 7, 8 or 9.
-pub fn operands_at(bytes: &[u8], at: usize) -> OperandStep
+/// Reads the opcode at `at` and its operands. Refuses with 7, 8 or 9.
+#[tactic(auto, unfolding(crate::specs::Inner::read_in, crate::specs::Inner::found_in))]
+#[inline(always)]
+pub fn operands_at(bytes: &[u8], at: usize) -> Step<Operands>
     ensures { Reading bytes.now at result }
 {
-    let n = bytes.len();
-    if n <= at {
-        return OperandStep::End(n);
+    match read_at(bytes, at) {
+        Ok(Some(a)) => Step::Annotation(a),
+        Ok(None) => Step::End(bytes.len()),
+        Err(why) => Step::Refused(why),
     }
-    let width = width_at(bytes, at);
-    if width == 0 {
-        return OperandStep::Refused(why_at(bytes, at));
-    }
-    let opcode = value_at(bytes, at, width);
-    // Opcode 0 ends the program, whatever follows: the Rust drops its buffer here.
-    if opcode == 0 {
-        return OperandStep::End(n);
-    }
-    let place = at + width;
-    if 13 < opcode {
-        return OperandStep::Refused(PlacedRefusal {
-            refusal: Refusal::UnknownBinaryAnnotation(opcode),
-            place,
-        });
-    }
-    operands_of(bytes, opcode, is_shortest(opcode, width), place)
 }
 
-// Reads the operands of an opcode at `at`: 12 has two, the others one. `short` says whether the opcode's own number was
-// shortest.
-fn operands_of(bytes: &[u8], opcode: u32, short: bool, at: usize) -> OperandStep
-    requires { (1 ≤ opcode) × (opcode ≤ 13) }
-    ensures { ReadAs (operands bytes.now opcode short at) result }
+// The same: no operands are the end.
+#[tactic(auto, unfolding(crate::specs::Inner::found_in, crate::specs::Inner::operands_in, crate::specs::Step::step_at, outcome::specs::Outcome::and_then, outcome::specs::Outcome::and_next, outcome::specs::Outcome::require, outcome::specs::Outcome::raise))]
+#[inline(always)]
+fn read_at(bytes: &[u8], at: usize) -> Result<Option<Operands>, PlacedRefusal>
+    ensures { Reads bytes.now at result }
 {
-    let width = width_at(bytes, at);
-    if width == 0 {
-        return OperandStep::Refused(why_at(bytes, at));
+    if bytes.len() <= at {
+        return Ok(None);
     }
-    let first = value_at(bytes, at, width);
-    let one = short & is_shortest(first, width);
-    let next = at + width;
-    if opcode == 12 {
-        let width = width_at(bytes, next);
-        if width == 0 {
-            return OperandStep::Refused(why_at(bytes, next));
-        }
-        let second = value_at(bytes, next, width);
-        let both = one & is_shortest(second, width);
-        let after = next + width;
-        return OperandStep::Annotation(Operands {
-            opcode,
-            first,
-            second,
-            shortest: both,
-            next: after,
+    let code = uncompress_next(bytes, at)?;
+    // Opcode 0 ends the program, whatever follows: the Rust drops its buffer here.
+    if code.value == 0 {
+        return Ok(None);
+    }
+    if 13 < code.value {
+        return Err(PlacedRefusal {
+            refusal: Refusal::UnknownBinaryAnnotation(code.value),
+            place: code.next,
         });
     }
-    OperandStep::Annotation(Operands {
-        opcode,
-        first,
-        second: 0,
-        shortest: one,
-        next,
+    Ok(Some(operands_of(bytes, code)?))
+}
+
+// Reads the operands that follow an opcode: 12 has two, the others one.
+#[tactic(auto, unfolding(crate::specs::Inner::operands_in, crate::specs::Step::operands, outcome::specs::Outcome::and_then, outcome::specs::Outcome::raise))]
+#[inline(always)]
+fn operands_of(bytes: &[u8], code: Number) -> Result<Operands, PlacedRefusal>
+    ensures { HasOperands bytes.now code result }
+{
+    let first = uncompress_next(bytes, code.next)?;
+    let one = code.shortest & first.shortest;
+    if code.value != 12 {
+        return Ok(Operands {
+            opcode: code.value,
+            first: first.value,
+            second: 0,
+            shortest: one,
+            next: first.next,
+        });
+    }
+    let second = uncompress_next(bytes, first.next)?;
+    Ok(Operands {
+        opcode: code.value,
+        first: first.value,
+        second: second.value,
+        shortest: one & second.shortest,
+        next: second.next,
     })
 }

@@ -1,3 +1,1 @@
-mod AnnotationLaws
-mod LineLaws
 pub mod Statements

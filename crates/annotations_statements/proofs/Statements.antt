@@ -9,7 +9,8 @@ use borrow.Author.Tests.{lt-ltb, le-ltb, eq-eqb, ne_eqb, ltb-true, ltb-false, le
 use lib.Dec.{leb, ltb}
 use lib.ListN.{length, get_or}
 use lib.IntN.{pos, neg_ℤ}
-use Rattle.outcome.specs.Outcome.{Outcome, ok, refused, ◌>>=◌, ◌>>◌, require, raise}
+use Rattle.std.specs.Prelude.{Result, Ok, Err}
+use Rattle.outcome.specs.Outcome.{and_next, and_then, ◌>>=◌, ◌>>◌, require, raise}
 use Rattle.outcome.proofs.OutcomeLaws.{by_test, ok_refused}
 use Rattle.outcome.proofs.OnlyLaws.{only, only₂}
 use Rattle.numbers.specs.Refusal.{Stop, stop}
@@ -17,9 +18,9 @@ use Rattle.numbers.specs.Number.{number_at}
 use Rattle.annotations.specs.Signed.{signed_of}
 use Rattle.annotations.specs.Step.{PlacedTriple, Stepped, step_at}
 use Rattle.decode.specs.Decode.{Run, on_step, run_from, rest, decode_all, entries_each, no_room_for, with_place, decoding}
-use Rattle.numbers.specs.Promises.{uncompressed_in}
+use Rattle.numbers.specs.Refusal as number
 use Rattle.annotations.specs.Promises.{step_in}
-use Rattle.decode.specs.Promises.{decoded_in}
+use Rattle.decode.specs.Refusal as decoding_all
 use Rattle.annotations_statements.specs.Statements.{SingleValued, SignedReading, AtMostHalf, form, Exactly, NumberExactly, StepsTo, closing, SteppedThrough, Agreement, DecodeExactly}
 use Rattle.annotations.proofs.MoveLaws.{StepMoves, step_moves}
 use Rattle.decode.proofs.RunLaws.{rest_on, rest_end, rest_refused, half}
@@ -30,10 +31,10 @@ use Rattle.numbers.specs.declared.number.Number.{Number}
 pub single_valued : SingleValued
 single_valued =
     record {
-      uncompress_next = λ s at a b p q. only uncompressed_in told.uncompressed (number_at s at) a b p.answer q.answer;
+      uncompress_next = λ s at a b p q. only number.told told.uncompressed (number_at s at) a b p.answer q.answer;
       of_step_at = λ s at a b p q. only step_in told.step (step_at s at) a b p.answer q.answer;
       of_decode_all = λ s store a b x y p q.
-          only₂ decoded_in told.decoded (decoding s (length store)) _ a b x y (p.answer, p.after) (q.answer, q.after);
+          only₂ decoding_all.told told.decoded (decoding s (length store)) _ a b x y (p.answer, p.after) (q.answer, q.after);
     }
 
 pub at_most_half : AtMostHalf
@@ -80,14 +81,14 @@ form_least : (b : ℕ) → 1 ≤ form b
 form_least b = by_test (λ (n : ℕ). 1 ≤ n) (ltb b 0x80) (λ _. omega arith) (λ _. by_test (λ (n : ℕ). 1 ≤ n) (ltb b 0xc0) (λ _. omega arith) (λ _. omega arith))
 
 -- refusals of different numbers differ
-other : {x y : Stop} → ◌≡◌ {A = Outcome Stop Number} (refused x) (refused y) → x.refusal.number ≡ y.refusal.number
+other : {x y : Stop} → ◌≡◌ {A = Result Number Stop} (Err x) (Err y) → x.refusal.number ≡ y.refusal.number
 other {x} {y} e = let f : x ≡ y = cc in ap (λ (w : Stop). w.refusal.number) f
 
 module _ (s : List ℕ) (at : ℕ) where
   abbrev b1 : ℕ
   b1 = get_or s at 0
 
-  read_exactly : (n : Number) → at + form b1 ≤ length s → b1 < 0xe0 → Exactly s at (ok n)
+  read_exactly : (n : Number) → at + form b1 ≤ length s → b1 < 0xe0 → Exactly s at (Ok n)
   read_exactly n h k =
       record {
         short = (λ e. absurd (ok_refused e), λ l. absurd (omega arith));
@@ -95,7 +96,7 @@ module _ (s : List ℕ) (at : ℕ) where
         read = (λ _. (h, k), λ _. (n, refl));
       }
 
-  short_exactly : length s < at + form b1 → Exactly s at (refused (stop ShortData (length s)))
+  short_exactly : length s < at + form b1 → Exactly s at (Err (stop ShortData (length s)))
   short_exactly h =
       record {
         short = (λ _. h, λ _. refl);
@@ -103,7 +104,7 @@ module _ (s : List ℕ) (at : ℕ) where
         read = (λ e. absurd (ok_refused (sym e.1)), λ l. absurd (omega arith));
       }
 
-  invalid_exactly : at + 4 ≤ length s → 0xe0 ≤ b1 → Exactly s at (refused (stop InvalidCompressedAnnotation (at + 4)))
+  invalid_exactly : at + 4 ≤ length s → 0xe0 ≤ b1 → Exactly s at (Err (stop InvalidCompressedAnnotation (at + 4)))
   invalid_exactly h k =
       record {
         short = (λ e. absurd (omega (arith, other e)), λ l. absurd (omega (arith, form_four b1 (omega arith))));
@@ -150,16 +151,16 @@ unfolding run_from on_step
 run_steps s zero at h = absurd (omega arith)
 run_steps s (suc fuel) at h = go (run_steps s fuel) (step_at s at) (step_moves s at) refl
   where
-    go : ((p : ℕ) → length s - p < fuel → SteppedThrough s p (run_from s fuel p)) → (y : Outcome Stop Stepped) → StepMoves s at y → step_at s at ≡ y → SteppedThrough s at (on_step at y (run_from s fuel))
+    go : ((p : ℕ) → length s - p < fuel → SteppedThrough s p (run_from s fuel p)) → (y : Result Stepped Stop) → StepMoves s at y → step_at s at ≡ y → SteppedThrough s at (on_step at y (run_from s fuel))
     go later _ (StepMoves.found {x} l m) e = let r = later x.next (omega arith) in record { steps = StepsTo.more e r.steps; closes = r.closes }
     go later _ (StepMoves.ended {p}) e = record { steps = StepsTo.none; closes = e }
     go later _ (StepMoves.stopped {why}) e = record { steps = StepsTo.none; closes = e }
 
-closes_rest : (s : List ℕ) (at : ℕ) (last : Outcome Stop ℕ) → step_at s at ≡ closing last → record { found = []; at = at; last = last } ≡ rest s at
-closes_rest s at (ok place) e = sym (rest_end s at e)
-closes_rest s at (refused why) e = sym (rest_refused s at e)
+closes_rest : (s : List ℕ) (at : ℕ) (last : Result ℕ Stop) → step_at s at ≡ closing last → record { found = []; at = at; last = last } ≡ rest s at
+closes_rest s at (Ok place) e = sym (rest_end s at e)
+closes_rest s at (Err why) e = sym (rest_refused s at e)
 
-steps_rest : {s : List ℕ} {at e : ℕ} {l : List PlacedTriple} (last : Outcome Stop ℕ) → StepsTo s at l e → step_at s e ≡ closing last → record { found = l; at = e; last = last } ≡ rest s at
+steps_rest : {s : List ℕ} {at e : ℕ} {l : List PlacedTriple} (last : Result ℕ Stop) → StepsTo s at l e → step_at s e ≡ closing last → record { found = l; at = e; last = last } ≡ rest s at
 steps_rest {s} {at} last StepsTo.none c = closes_rest s at last c
 steps_rest {s} {at} last (StepsTo.more {x = x} e r) c =
     ap (λ (q : Run). record { found = x ∷ q.found; at = q.at; last = q.last }) (steps_rest last r c) ∙ sym (rest_on s at e)
@@ -173,13 +174,13 @@ agreement =
     }
 
 -- ---- decoding all, exactly
-decodes : (last : Outcome Stop ℕ) (m room n : ℕ) → ((raise with_place (last >> ok m) >>= λ k. require (leb (entries_each * k) room) (no_room_for (entries_each * k)) >> ok k) ≡ ok n) ↔ ((n ≡ m) × ((place : ℕ) × (last ≡ ok place)) × (entries_each * n ≤ room))
-unfolding raise require ◌>>=◌ ◌>>◌
-decodes (refused why) m room n =
+decodes : (last : Result ℕ Stop) (m room n : ℕ) → ((raise with_place (last >> Ok m) >>= λ k. require (leb (entries_each * k) room) (no_room_for (entries_each * k)) >> Ok k) ≡ Ok n) ↔ ((n ≡ m) × ((place : ℕ) × (last ≡ Ok place)) × (entries_each * n ≤ room))
+unfolding raise require and_then and_next
+decodes (Err why) m room n =
     (λ e. absurd (ok_refused (sym e)), λ t. absurd (ok_refused (sym t.1.1)))
-decodes (ok place) m room n = go (leb (entries_each * m) room) refl
+decodes (Ok place) m room n = go (leb (entries_each * m) room) refl
   where
-    go : (b : Bool) → leb (entries_each * m) room ≡ b → ((require b (no_room_for (entries_each * m)) >> ok m) ≡ ok n) ↔ ((n ≡ m) × ((p : ℕ) × (◌≡◌ {A = Outcome Stop ℕ} (ok place) (ok p))) × (entries_each * n ≤ room))
+    go : (b : Bool) → leb (entries_each * m) room ≡ b → ((require b (no_room_for (entries_each * m)) >> Ok m) ≡ Ok n) ↔ ((n ≡ m) × ((p : ℕ) × (◌≡◌ {A = Result ℕ Stop} (Ok place) (Ok p))) × (entries_each * n ≤ room))
     go true h =
         let fits = leb-true (entries_each * m) room h in
         (λ e. let f : n ≡ m = cc in (f, (place, refl), omega arith), λ t. rw t.0)

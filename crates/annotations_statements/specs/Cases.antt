@@ -1,7 +1,6 @@
 -- Document 01, "File F and other checks": the (P) cases on annotations, with what request 2026-06 adds.
 -- proofs/Cases.antt proves them by computation.
-use Rattle.std.specs.Prelude.{◌≡◌, Bool, true, false, [], ◌∷◌, ℕ, ℤ, pos, negsuc}
-use Rattle.outcome.specs.Outcome.{Outcome, ok, refused}
+use Rattle.std.specs.Prelude.{◌≡◌, Bool, true, false, [], ◌∷◌, ℕ, ℤ, pos, negsuc, Result, Ok, Err}
 use Rattle.numbers.specs.Refusal.{Stop}
 use Rattle.numbers.specs.Number.{number_at}
 use Rattle.annotations.specs.Annotation.{triple}
@@ -10,14 +9,14 @@ use Rattle.numbers.specs.declared.number.Number.{Number}
 
 -- a number's value, or an annotation, whether it is shortest, and the place after it, from place 0 on; a refusal's
 -- number and value, and the place after it
-abbrev reads : ℕ → Bool → ℕ → Outcome Stop Number
-reads value shortest next = ok (record { value = value; next = next; taken = next; shortest = shortest })
+abbrev reads : ℕ → Bool → ℕ → Result Number Stop
+reads value shortest next = Ok (record { value = value; next = next; taken = next; shortest = shortest })
 
-abbrev finds : ℕ → ℤ → ℤ → Bool → ℕ → Outcome Stop Stepped
-finds op first second shortest next = ok (annotation (placed (triple op first second) shortest next))
+abbrev finds : ℕ → ℤ → ℤ → Bool → ℕ → Result Stepped Stop
+finds op first second shortest next = Ok (annotation (placed (triple op first second) shortest next))
 
-abbrev refuses : ℕ → ℕ → ℕ → Outcome Stop Stepped
-refuses number value place = refused (record { refusal = record { number = number; value = value }; place = place })
+abbrev refuses : ℕ → ℕ → ℕ → Result Stepped Stop
+refuses number value place = Err (record { refusal = record { number = number; value = value }; place = place })
 
 pub record Cases : Type 0 where
   pub one_byte : number_at (0x7f ∷ []) 0 ≡ reads 127 true 1
@@ -34,4 +33,4 @@ pub record Cases : Type 0 where
   pub long_first : step_at (0x0c ∷ 0x80 ∷ 0x05 ∷ 0x06 ∷ []) 0 ≡ finds 12 (pos 5) (pos 6) false 4
   pub long_second : step_at (0x0c ∷ 0x05 ∷ 0x80 ∷ 0x06 ∷ []) 0 ≡ finds 12 (pos 5) (pos 6) false 4
   pub unknown : step_at (0x0e ∷ []) 0 ≡ refuses 9 14 1
-  pub closed : step_at (0x00 ∷ 0x03 ∷ 0x05 ∷ []) 0 ≡ ok (end 3)
+  pub closed : step_at (0x00 ∷ 0x03 ∷ 0x05 ∷ []) 0 ≡ Ok (end 3)

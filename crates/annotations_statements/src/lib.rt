@@ -9,6 +9,7 @@ ghost use Rattle.annotations_statements.specs.Statements.{Told, SingleValued, Si
 ghost use Rattle.annotations_statements.specs.Statements.{NumberExactly, Agreement, DecodeExactly};
 
 // Promises each statement of this crate, so that none can be dropped unnoticed.
+#[tactic(auto, using(crate::proofs::Told::told, crate::proofs::Statements::single_valued, crate::proofs::Statements::signed_reading, crate::proofs::Statements::at_most_half, crate::proofs::Statements::number_exactly, crate::proofs::Statements::agreement, crate::proofs::Statements::decode_exactly, crate::proofs::Cases::cases))]
 pub fn proved()
     ensures told { Told }
     ensures single_valued { SingleValued }

@@ -1,2 +1,1 @@
-mod ContainerLaws
 pub mod Statements

@@ -4,50 +4,35 @@
 
 ghost use Rattle.std.specs.Prelude.{◌≡◌, length};
 ghost use Rattle.parse_buffer.specs.Bytes.{byte_at};
-ghost use Rattle.mapping.specs.Mapping.{mapped_in};
+ghost use Rattle.paged.specs.Refusal.{told};
 ghost use Rattle.container_crossing.specs.Flags.{limit_of, stage_of};
 ghost use Rattle.container_crossing.specs.Promises.{Opens, Counts, TellsMapping, Maps, Needs, Extracts};
 ghost use Rattle.container_crossing.specs.Statements.{SingleValued};
 
-use crossing::ACCEPTED;
-use msf::{Counted, Extracted, Limit, Mapping, Opened, StreamNumber};
+use crossing::tell;
+use msf::{Mapped, Refusal, StreamNumber};
 use needed::Stage;
 
-// `value` is P, `used` is pages_used.
+/// `value` is P, `used` is pages_used.
+#[tactic(auto, unfolding(crossing::specs::Crossing::told, outcome::specs::Outcome::raise))]
 pub fn open(file: &[u8], value: &mut u64, used: &mut u64) -> u32
     ensures { Opens (byte_at file.now) (length file.now) result value.new used.new }
 {
-    match msf::open(file) {
-        Opened::Container(c) => {
-            *value = c.pagesize as u64;
-            *used = c.used as u64;
-            ACCEPTED
-        }
-        Opened::Refused(why) => {
-            *value = why.value();
-            *used = 0;
-            why.number()
-        }
-    }
+    let opened = msf::open(file);
+    *used = opened.map_or(0, |c| u64::from(c.used));
+    tell(opened.map(|c| u64::from(c.pagesize)), value)
 }
 
-// `value` is the number of streams.
+/// `value` is the number of streams.
+#[tactic(auto, unfolding(crossing::specs::Crossing::told, outcome::specs::Outcome::raise))]
 pub fn stream_count(file: &[u8], value: &mut u64) -> u32
     ensures { Counts (byte_at file.now) (length file.now) result value.new }
 {
-    match msf::stream_count(file) {
-        Counted::Streams(n) => {
-            *value = n as u64;
-            ACCEPTED
-        }
-        Counted::Refused(why) => {
-            *value = why.value();
-            why.number()
-        }
-    }
+    let count = msf::stream_count(file);
+    tell(count.map(|n| u64::from(n)), value)
 }
 
-// `value` is the number of slices, `total` the number of their bytes. `limit` is used only if `limited`.
+/// `value` is the number of slices, `total` the number of their bytes. `limit` is used only if `limited`.
 pub fn map(
     file: &[u8],
     stream: u32,
@@ -72,7 +57,7 @@ pub fn map(
     tell_mapping(mapped, value, total)
 }
 
-// The location list's slices, or the directory's if `directory`. `value` is their number, `total` that of their bytes.
+/// The location list's slices, or the directory's if `directory`. `value` is their number, `total` that of their bytes.
 pub fn needed_to_map(
     file: &[u8],
     directory: bool,
@@ -89,7 +74,8 @@ pub fn needed_to_map(
     tell_mapping(mapped, value, total)
 }
 
-// `value` is the number of bytes written. `limit` is used only if `limited`.
+/// `value` is the number of bytes written. `limit` is used only if `limited`.
+#[tactic(auto, unfolding(crossing::specs::Crossing::told, outcome::specs::Outcome::raise))]
 pub fn extract(
     file: &[u8],
     stream: u32,
@@ -101,44 +87,24 @@ pub fn extract(
     ensures { Extracts (byte_at file.now) (length file.now) stream (limit_of limited limit)
         out.old result value.new out.new }
 {
-    match msf::extract(file, StreamNumber(stream), limit_of(limited, limit), out) {
-        Extracted::Length(n) => {
-            *value = n as u64;
-            ACCEPTED
-        }
-        Extracted::Refused(why) => {
-            *value = why.value();
-            why.number()
-        }
-    }
+    let extracted = msf::extract(file, StreamNumber(stream), limit_of(limited, limit), out);
+    tell(extracted.map(|n| n as u64), value)
 }
 
 // What crosses of a mapping: the number of slices, and that of their bytes.
-fn tell_mapping(mapped: Mapping, value: &mut u64, total: &mut u64) -> u32
-    ensures { TellsMapping (mapped_in mapped) result value.new total.new }
+#[tactic(auto, unfolding(crossing::specs::Crossing::told, outcome::specs::Outcome::raise))]
+fn tell_mapping(mapped: Result<Mapped, Refusal>, value: &mut u64, total: &mut u64) -> u32
+    ensures { TellsMapping (told mapped) result value.new total.new }
 {
-    match mapped {
-        Mapping::Mapped(m) => {
-            *value = m.slices as u64;
-            *total = m.length as u64;
-            ACCEPTED
-        }
-        Mapping::Refused(why) => {
-            *value = why.value();
-            *total = 0;
-            why.number()
-        }
-    }
+    *total = mapped.map_or(0, |m| m.length as u64);
+    tell(mapped.map(|m| m.slices as u64), value)
 }
 
 // The limit, if there is one.
-fn limit_of(limited: bool, limit: usize) -> Limit
+fn limit_of(limited: bool, limit: usize) -> Option<usize>
     ensures { result ≡ limit_of limited limit }
 {
-    if limited {
-        return Limit::AtMost(limit);
-    }
-    Limit::None
+    limited.then_some(limit)
 }
 
 // The stage of a flag.
@@ -146,12 +112,14 @@ fn stage_of(directory: bool) -> Stage
     ensures { result ≡ stage_of directory }
 {
     if directory {
-        return Stage::Directory;
+        Stage::Directory
+    } else {
+        Stage::LocationList
     }
-    Stage::LocationList
 }
 
-// Promises the statement of this crate, so that it cannot be dropped unnoticed.
+/// Promises the statement of this crate, so that it cannot be dropped unnoticed.
+#[tactic(auto, using(crate::proofs::Statements::single_valued))]
 pub fn proved()
     ensures { SingleValued }
 {}

@@ -6,7 +6,7 @@ use native.Mathlib.Omega.{arith}
 use native.Mathlib.Nat.{add-mul, mod-eq_of_lt}
 use borrow.Author.Tests.{leb-true, eqb-true}
 use lib.ListN.{length, get_or-eq_default}
-use Rattle.outcome.specs.Outcome.{ok}
+use Rattle.std.specs.Prelude.{Ok}
 use Rattle.outcome.proofs.OutcomeLaws.{came, ok_is, passed}
 use Rattle.parse_buffer.specs.Bytes.{byte_at, bytes_of}
 use Rattle.paged.specs.PageSize.{PageSize}
@@ -27,7 +27,7 @@ pub record Plan (p : ℕ) (sizes : List ℕ) (given : ℕ) : Type 0 where
   pub list : 4 * directory_pages p sizes ≤ p
   pub small : directory_size p sizes < 2 ^ 32
 
-pub plan_of : (p : ℕ) (sizes : List ℕ) (given : ℕ) {l : Layout} → planning p sizes given ≡ ok l → Plan p sizes given × (l ≡ layout_of p sizes)
+pub plan_of : (p : ℕ) (sizes : List ℕ) (given : ℕ) {l : Layout} → planning p sizes given ≡ Ok l → Plan p sizes given × (l ≡ layout_of p sizes)
 unfolding planning
 plan_of p sizes given e =
     came _ _ e λ _ size e₁.

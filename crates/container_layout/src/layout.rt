@@ -1,9 +1,10 @@
 // How much there is of each part, from the page size and the list of sizes, and whether the format can hold it. No sum
 // can overflow: that of the sizes stops where it passes the input, and no stream has more pages than bytes.
-ghost use Rattle.std.specs.Prelude.{◌≡◌, max};
-ghost use Rattle.paged.specs.PageSize.{PageSize, size_is_fit};
+ghost use Rattle.std.specs.Prelude.{◌≡◌, ◌==◌, ◌^◌, ◌<◌, length};
+ghost use Rattle.paged.specs.PageSize.{PageSize};
 ghost use Rattle.container_layout.specs.Planning.{layout_of};
-ghost use Rattle.container_layout.specs.Inner.{Planning, Sized, Adding, Summing, Paging, Short, Numbered, why_planned};
+ghost use Rattle.container_layout.specs.Layout.{bytes_up_to, stream_pages};
+ghost use Rattle.container_layout.specs.Inner.{Planning, Sized, Numbered};
 
 use crate::place::data_page;
 use crate::refusal::Refusal;
@@ -11,9 +12,9 @@ use header::Header;
 use paged::pages_needed_to_store;
 use stream::{ABSENT, pages_of};
 
-// Where the parts lie: P, the pages of all streams and of the directory, the location page, which is the last data
-// page, and pages_used.
-#[derive(Clone, Copy)]
+/// Where the parts lie: P, the pages of all streams and of the directory, the location page, which is the last data
+/// page, and pages_used.
+#[derive(Clone, Copy, Debug, PartialEq, Eq)]
 pub struct Layout {
     pub pagesize: usize,
     pub streams: usize,
@@ -22,55 +23,39 @@ pub struct Layout {
     pub used: usize,
 }
 
-#[derive(Clone, Copy)]
-pub enum Planned {
-    Layout(Layout),
-    Refused(Refusal),
-}
-
-impl Planned {
-    // Why the container cannot be written.
-    pub fn why(self) -> Refusal
-        ensures { result ≡ why_planned self }
-    {
-        match self {
-            Planned::Refused(why) => why,
-            Planned::Layout(_) => Refusal::SizesDiffer,
-        }
-    }
-}
-
 // A file has at least so many bytes.
 const SMALLEST_FILE: usize = 4096;
 
 // The most numbers in a directory whose size has 32 bits.
 const MOST_NUMBERS: usize = 0x3fffffff;
 
-// Judges everything but the room, for an input of so many bytes: refuses with 3, 22, 23 or 24, in this order.
-pub fn plan(pagesize: u32, sizes: &[u32], given: usize) -> Planned
-    requires { Short given }
+/// Judges everything but the room, for an input of so many bytes: refuses with 3, 22, 23 or 24, in this order.
+#[tactic(auto, using(crate::proofs::PlanLaws::judging), unfolding(crate::specs::Planning::planning, outcome::specs::Outcome::and_next, outcome::specs::Outcome::require, outcome::specs::Outcome::raise))]
+pub fn plan(pagesize: u32, sizes: &[u32], given: usize) -> Result<Layout, Refusal>
+    requires { given < 2 ^ 63 }
     ensures { Planning pagesize sizes.now given result }
 {
-    if !size_fits(pagesize) {
-        return Planned::Refused(Refusal::InvalidPageSize(pagesize));
+    if !Header::size_fits(pagesize) {
+        return Err(Refusal::InvalidPageSize(pagesize));
     }
     if !sum_is(sizes, given) {
-        return Planned::Refused(Refusal::SizesDiffer);
+        return Err(Refusal::SizesDiffer);
     }
     let size = pagesize as usize;
     let streams = stream_pages(size, sizes);
     let numbers = 1 + sizes.len() + streams;
     // a page holds size / 4 numbers, and so does the location page
     if size / 4 * (size / 4) < numbers {
-        return Planned::Refused(Refusal::DirectoryTooLarge);
+        return Err(Refusal::DirectoryTooLarge);
     }
     if MOST_NUMBERS < numbers {
-        return Planned::Refused(Refusal::Over32Bits);
+        return Err(Refusal::Over32Bits);
     }
-    Planned::Layout(lay_out(size, sizes, streams, numbers))
+    Ok(lay_out(size, sizes, streams, numbers))
 }
 
 // The layout of a container that the format can hold.
+#[tactic(auto, using(crate::proofs::PlanLaws::laying))]
 fn lay_out(size: usize, sizes: &[u32], streams: usize, numbers: usize) -> Layout
     requires page_size { PageSize size }
     requires numbered { Numbered size sizes.now streams numbers }
@@ -83,71 +68,44 @@ fn lay_out(size: usize, sizes: &[u32], streams: usize, numbers: usize) -> Layout
         streams,
         directory,
         last,
-        used: most(last + 1, pages_needed_to_store(size, SMALLEST_FILE)),
+        used: (last + 1).max(pages_needed_to_store(size, SMALLEST_FILE)),
     }
-}
-
-// Whether the page size has one bit set and is within the limits.
-fn size_fits(size: u32) -> bool
-    ensures { result ≡ size_is_fit size }
-{
-    if u32::count_ones(size) != 1 {
-        return false;
-    }
-    if size < Header::SMALLEST {
-        return false;
-    }
-    size <= Header::LARGEST
 }
 
 // Whether the present sizes sum to the input's length.
+#[tactic(auto, using(crate::proofs::PlanLaws::summing))]
 fn sum_is(sizes: &[u32], given: usize) -> bool
-    ensures { Adding sizes.now given result }
+    ensures { result ≡ bytes_up_to sizes.now (length sizes.now) == given }
 {
     let mut left = given;
-    let mut k: usize = 0;
-    while k < sizes.len() {
-        let n = present_bytes(sizes[k]);
-        if left < n {
+    for &size in sizes {
+        let Some(rest) = left.checked_sub(present_bytes(size)) else {
             return false;
-        }
-        left -= n;
-        k += 1;
+        };
+        left = rest;
     }
     left == 0
 }
 
 // The pages of all streams. They have at least as many bytes.
-fn stream_pages(size: usize, sizes: &[u32]) -> usize
-    requires page_size { PageSize size }
-    requires summing { Summing sizes.now }
-    ensures { Paging size sizes.now result }
+#[tactic(auto, using(crate::proofs::PlanLaws::paging))]
+fn stream_pages(pagesize: usize, sizes: &[u32]) -> usize
+    requires page_size { PageSize pagesize }
+    requires few { bytes_up_to sizes.now (length sizes.now) < 2 ^ 63 }
+    ensures all { result ≡ stream_pages pagesize sizes.now }
+    ensures few { result < 2 ^ 63 }
 {
-    let mut pages: usize = 0;
-    let mut k: usize = 0;
-    while k < sizes.len() {
-        pages += pages_of(size, sizes[k]);
-        k += 1;
+    let mut pages = 0;
+    for &size in sizes {
+        pages += pages_of(pagesize, size);
     }
     pages
 }
 
-// The bytes of a stream of this size: none where it is absent.
+/// The bytes of a stream of this size: none where it is absent.
+#[tactic(auto, unfolding(crate::specs::Layout::present_bytes))]
 pub fn present_bytes(size: u32) -> usize
     ensures { Sized size result }
 {
-    if size == ABSENT {
-        return 0;
-    }
-    size as usize
-}
-
-// The larger of two numbers.
-fn most(a: usize, b: usize) -> usize
-    ensures { result ≡ max a b }
-{
-    if a < b {
-        return b;
-    }
-    a
+    if size == ABSENT { 0 } else { size as usize }
 }

@@ -4,7 +4,8 @@ ghost use Rattle.std.specs.Prelude.{◌≡◌, ◌-◌, ◌%◌, ◌^◌, ◌<�
 ghost use Rattle.paged.specs.PageSize.{PageSize};
 ghost use Rattle.container_layout.specs.Place.{data_page};
 
-// The r-th data page, r from 0.
+/// The r-th data page, r from 0.
+#[tactic(auto, unfolding(crate::specs::Place::data_page))]
 pub fn data_page(size: usize, r: usize) -> usize
     requires page_size { PageSize size }
     requires r_bound { r < 2 ^ 32 }
@@ -14,7 +15,7 @@ pub fn data_page(size: usize, r: usize) -> usize
     r / run * size + r % run + 3
 }
 
-// How many data pages there are from the r-th on before the next map page.
+/// How many data pages there are from the r-th on before the next map page.
 pub fn pages_to_map(size: usize, r: usize) -> usize
     requires { PageSize size }
     ensures { result ≡ size - 2 - r % (size - 2) }

@@ -2,17 +2,15 @@
 use mathlib.Core.Path.{◌≡◌, refl, ◌∙◌, ap}
 use mathlib.Core.Logic.{⊎_elim}
 use mathlib.Core.List.{List}
-use Prim.Native.Nat.{ℕ, suc, ◌+◌, ◌-◌, ◌/◌, ◌%◌, ◌≤◌, ◌<◌}
+use Prim.Native.Nat.{ℕ, ◌+◌, ◌-◌, ◌≤◌, ◌<◌}
 use native.Mathlib.Omega.{arith}
-use native.Mathlib.Nat.{le_antisymm}
-use native.Mathlib.Numerals.{add-one, add-two}
 use lib.ListN.{length, get_or, set, length-set}
-use lib.Seq.{length-sets, get_or-set_same, get_or-set_other}
+use lib.Seq.{get_or-set_same, get_or-set_other}
 use Rattle.outcome.proofs.OutcomeLaws.{below_or}
-use Rattle.parse_buffer.specs.Bytes.{File, bytes_of}
+use Rattle.parse_buffer.specs.Bytes.{File}
 use Rattle.store.specs.Putting.{Putting}
 use Rattle.store.proofs.PutLaws.{put_length, put_before, put_inside, put_after}
-use Rattle.container_pages.specs.Inner.{Filled, Within}
+use Rattle.container_pages.specs.Inner.{Filled}
 
 -- ---- nothing is filled in, and then more
 pub filled_none : (f : File) (o : List ℕ) (at : ℕ) → Filled f o at at o
@@ -58,39 +56,3 @@ filled_put {xs} {o} {o'} {at} {r} p =
           ap (λ (n : ℕ). get_or o' n 0) e ∙ put_inside p 0 (i - at) (omega (arith, p.place));
       after = put_after p 0;
     }
-
--- ---- `put_zeros`: zeros up to place i
-pub record ZerosSoFar (o : List ℕ) (from to : ℕ) (o₁ : List ℕ) (i : ℕ) : Type 0 where
-  pub filled : Filled (λ _. 0) o from i o₁
-  pub order : from ≤ i
-  pub within : i ≤ to
-  pub fits : to ≤ length o
-
-pub zeros_none : (o : List ℕ) {from to : ℕ} → Within from to (length o) → ZerosSoFar o from to o from
-zeros_none o {from} {to} w =
-    record { filled = filled_none (λ _. 0) o from; order = omega arith; within = w.order; fits = w.fits }
-
-module _ {o o₁ : List ℕ} {from to i : ℕ} (z : ZerosSoFar o from to o₁ i) where
-  pub zeros_room : i < to → i < length o₁
-  zeros_room l = omega (arith, z.filled.same, z.fits)
-
-  pub zeros_more : i < to → ZerosSoFar o from to (set o₁ i 0) (i + 1)
-  zeros_more l =
-      let e = z.order in
-      record {
-        filled = filled_set z.filled z.order (zeros_room l) refl;
-        order = omega arith;
-        within = omega arith;
-        fits = z.fits;
-      }
-
-  pub zeros_all : to ≤ i → Filled (λ _. 0) o from to o₁
-  zeros_all l = rw (le_antisymm l z.within) z.filled
-
-pub ruleset zeros_cases = (zeros_none, zeros_more, zeros_all)
-
--- ---- `put_number`: the bytes put one by one are `sets` of the number's four
-pub number_put : (o : List ℕ) (at n : ℕ) → at + 4 ≤ length o → Putting (bytes_of n) o at (set (set (set (set o at (n % 256)) (at + 1) (n / 256 % 256)) (at + 2) (n / 65536 % 256)) (at + 3) (n / 16777216 % 256)) (at + 4)
-number_put o at n room =
-    let e : at + 3 ≡ suc (suc (suc at)) = omega arith in
-    rw (add-one, add-two, e) (record { store = refl; place = refl; within = rw (length-sets o at (bytes_of n)) room })

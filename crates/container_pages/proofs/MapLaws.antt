@@ -19,11 +19,12 @@ use Rattle.container_layout.specs.declared.layout.Layout.{Layout}
 use Rattle.container_layout.proofs.PlaceLaws.{times_le, data_least, after_next, after_maps}
 use Rattle.container_layout.proofs.LayoutLaws.{data_most}
 use Rattle.container_layout.proofs.ContainerLaws.{padding_yes, padding_not, with_map, with_zero}
-use Rattle.container_pages.specs.Inner.{Filled, Within, Bounds, low_bits, Freeing, map_of, map_from, Beginning}
+use Rattle.container_layout.specs.Laid.{Bounds}
+use Rattle.container_pages.specs.Inner.{Filled, Within, low_bits, Freeing, map_of, map_from, Beginning}
 use Rattle.container_pages.proofs.FillLaws.{filled_none, filled_more, filled_as, filled_set}
 
 -- ---- `low_bits`
-low_shift : (v : ℕ) → v ≤ 8 → 255 / 2 ^ (8 - v) ≡ low_bits v
+pub low_shift : (v : ℕ) → v ≤ 8 → 255 / 2 ^ (8 - v) ≡ low_bits v
 low_shift zero h = refl
 low_shift (suc zero) h = refl
 low_shift (suc (suc zero)) h = refl
@@ -34,14 +35,6 @@ low_shift (suc (suc (suc (suc (suc (suc zero)))))) h = refl
 low_shift (suc (suc (suc (suc (suc (suc (suc zero))))))) h = refl
 low_shift (suc (suc (suc (suc (suc (suc (suc (suc zero)))))))) h = refl
 low_shift (suc (suc (suc (suc (suc (suc (suc (suc (suc v))))))))) h = absurd (omega arith)
-
-pub low_none : (end n : ℕ) → end ≤ n → 0 ≡ low_bits (min (end - n) 8)
-low_none end n h = let e : min (end - n) 8 ≡ 0 = omega arith in rw e
-
-pub low_some : (end n : ℕ) {v : ℕ} → v ≡ min (end - n) 8 → 255 / 2 ^ (8 - v) ≡ low_bits (min (end - n) 8)
-low_some end n e = low_shift _ (omega arith) ∙ ap low_bits e
-
-pub ruleset low_cases = (low_none, low_some)
 
 -- ---- `free_bits`: the ones below pages_used, less those up to the last data page
 power_rises : (a b : ℕ) → a ≤ b → 2 ^ a ≤ 2 ^ b
@@ -118,6 +111,8 @@ module _ {l : Layout} (b : Bounds l) (n : ℕ) {u v : ℕ} (e : u ≡ low_bits (
 pub last_fits : {l : Layout} → Bounds l → Fits w64 (l.last + 1)
 last_fits b = record { fits = omega (arith, b.last, b.used) }
 
+pub ruleset freeing = (free_order, freed, last_fits)
+
 -- ---- `put_map`: x bytes are put
 pub record MapSoFar (l : Layout) (q at : ℕ) (o o₁ : List ℕ) (x : ℕ) : Type 0 where
   pub filled : Filled (map_from l q at) o at (at + x) o₁
@@ -153,8 +148,6 @@ module _ {l : Layout} {q at : ℕ} {o o₁ : List ℕ} {x : ℕ} (m : MapSoFar l
       ap' : {n : ℕ} → at + x ≡ n → Filled (map_from l q at) o at n o₁
       ap' e = rw (← e) m.filled
 
-pub ruleset map_cases = (map_none, map_more, map_all)
-
 module _ {l : Layout} (b : Bounds l) {q x : ℕ} (h : q < 2 ^ 32) (k : x < l.pagesize) where
   pub page_fits_lem : Fits w64 (q * l.pagesize)
   page_fits_lem = record { fits = omega (arith, at_most_largest q b.size) }
@@ -164,6 +157,8 @@ module _ {l : Layout} (b : Bounds l) {q x : ℕ} (h : q < 2 ^ 32) (k : x < l.pag
 
   pub bit_fits : Fits w64 (8 * (q * l.pagesize + x))
   bit_fits = let m = b.size.most in record { fits = omega (arith, at_most_largest q b.size) }
+
+pub ruleset mapping = (page_fits_lem, byte_fits, bit_fits, map_none, map_more, map_all)
 
 -- ---- `begin_page`
 module _ {l : Layout} (b : Bounds l) (r : ℕ) {at : ℕ} (o : List ℕ) (e : at ≡ data_page l.pagesize r * l.pagesize) where
@@ -234,8 +229,7 @@ place_fits p r s h {v} e =
     let d = data_most p r (omega arith) in
     record { fits = omega (arith, at_most_largest v s) }
 
-pub place_is : (p r : ℕ) {v : ℕ} → v ≡ data_page p r → v * p ≡ data_page p r * p
-place_is p r e = rw e
-
 pub run_small : {r : ℕ} (run : ℕ) → r < 2 ^ 32 → r / run < 2 ^ 32
 run_small {r} run h = omega (arith, div-le_self r run)
+
+pub ruleset beginning = (place_fits, run_small, begin_none, begin_order, begin_map, begin_within, begin_maps)

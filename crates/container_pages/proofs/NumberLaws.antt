@@ -1,7 +1,7 @@
 -- The numbers of the header, the directory and the location list, one by one, and a run of them as bytes.
-use mathlib.Core.Path.{◌≡◌, refl, sym, ◌∙◌, ap}
+use mathlib.Core.Path.{◌≡◌, sym, ◌∙◌, ap}
 use mathlib.Core.List.{List, ◌++◌}
-use Prim.Native.Nat.{ℕ, zero, suc, ◌+◌, ◌-◌, ◌*◌, ◌^◌, ◌≤◌, ◌<◌}
+use Prim.Native.Nat.{ℕ, suc, ◌+◌, ◌-◌, ◌*◌, ◌^◌, ◌≤◌, ◌<◌}
 use native.Mathlib.Omega.{arith}
 use lib.ListN.{length, get_or, get_or-append}
 use lib.Seq.{get_or-append-add}
@@ -9,74 +9,16 @@ use mir.Syntax.{w32, w64}
 use mir.Val.{Fits}
 use Rattle.parse_buffer.specs.Bytes.{bytes_of}
 use Rattle.store.specs.Putting.{Putting}
-use Rattle.paged.specs.PageSize.{PageSize}
 use Rattle.container_layout.specs.Place.{data_page, data_pages}
-use Rattle.container_layout.specs.Layout.{stream_pages, directory_size, directory_pages, location_page, pages_used}
-use Rattle.container_layout.specs.Container.{number_bytes, header_numbers, directory_numbers, location_numbers}
+use Rattle.container_layout.specs.Layout.{stream_pages, directory_pages}
+use Rattle.container_layout.specs.Container.{number_bytes, directory_numbers, location_numbers}
 use Rattle.container_layout.specs.declared.layout.Layout.{Layout}
-use Rattle.container_layout.proofs.PlaceLaws.{data_rises_le, pages_at_lem, pages_past}
-use Rattle.container_layout.proofs.LayoutLaws.{ranks_small, location_small, used_small}
+use Rattle.container_layout.proofs.PlaceLaws.{pages_at_lem, pages_past}
 use Rattle.container_layout.proofs.ContainerLaws.{number_byte}
-use Rattle.container_pages.specs.Inner.{Filled, Laid, numbers_of, numbers_from}
-use Rattle.container_pages.specs.declared.numbers.Numbers.{Numbers}
-use Rattle.container_pages.specs.declared.numbers.Numbers.TheVariants as numbers
+use Rattle.container_layout.specs.Laid.{Laid}
+use Rattle.container_layout.proofs.LaidLaws.{laid_streams, laid_directory, laid_ranks, laid_page}
+use Rattle.container_pages.specs.Inner.{Filled, numbers_from}
 use Rattle.container_pages.proofs.FillLaws.{filled_none, filled_more, filled_as, filled_put}
-
--- ---- the parts of a layout
-module _ {l : Layout} {sizes : List ℕ} (d : Laid l sizes) where
-  pub laid_streams : l.streams ≡ stream_pages l.pagesize sizes
-  laid_streams = ap (λ (x : Layout). x.streams) d.is
-
-  pub laid_directory : l.directory ≡ directory_pages l.pagesize sizes
-  laid_directory = ap (λ (x : Layout). x.directory) d.is
-
-  pub laid_last : l.last ≡ location_page l.pagesize sizes
-  laid_last = ap (λ (x : Layout). x.last) d.is
-
-  pub laid_used : l.used ≡ pages_used l.pagesize sizes
-  laid_used = ap (λ (x : Layout). x.used) d.is
-
-  pub laid_ranks : l.streams + l.directory < 2 ^ 31
-  laid_ranks = omega (arith, laid_streams, laid_directory, ranks_small l.pagesize sizes d.size d.small)
-
-  -- a data page before the location page has a number of 32 bits
-  pub laid_page : {r : ℕ} → r ≤ l.streams + l.directory → data_page l.pagesize r < 2 ^ 32
-  laid_page {r} h =
-      let s = d.size.least in
-      omega (arith, laid_streams, laid_directory, location_small l.pagesize sizes d.size d.small, data_rises_le l.pagesize (omega arith) r (stream_pages l.pagesize sizes + directory_pages l.pagesize sizes) (omega (arith, laid_streams, laid_directory)))
-
-  -- ---- `header_number`
-  pub used_fits : Fits w32 l.used
-  used_fits = record { fits = omega (arith, laid_used, used_small l.pagesize sizes d.size d.small) }
-
-  pub last_fits : Fits w32 l.last
-  last_fits = record { fits = omega (arith, laid_last, location_small l.pagesize sizes d.size d.small) }
-
-  numbers_are : 4 * (1 + length sizes + l.streams) ≡ directory_size l.pagesize sizes
-  numbers_are = omega (arith, laid_streams)
-
-  pub numbers_fit : Fits w64 (1 + length sizes + l.streams)
-  numbers_fit = record { fits = omega (arith, numbers_are, d.small) }
-
-  pub bytes_fit : Fits w64 (4 * (1 + length sizes + l.streams))
-  bytes_fit = record { fits = omega (arith, numbers_are, d.small) }
-
-  pub size_fits : Fits w32 (4 * (1 + length sizes + l.streams))
-  size_fits = record { fits = omega (arith, numbers_are, d.small) }
-
-  pub header_size : {w : ℕ} → w ≡ 3 → 4 * (1 + length sizes + l.streams) ≡ get_or (header_numbers l.pagesize sizes) w 0
-  header_size e = rw e numbers_are
-
-pub ruleset header_fits = (used_fits, last_fits)
-
-pub header_none : (p : ℕ) (sizes : List ℕ) (w : ℕ) → (w ≡ 0 → ⊥) → (w ≡ 1 → ⊥) → (w ≡ 2 → ⊥) → (w ≡ 3 → ⊥) → (w ≡ 5 → ⊥) → 0 ≡ get_or (header_numbers p sizes) w 0
-header_none p sizes zero a b c d e = absurd (a refl)
-header_none p sizes (suc zero) a b c d e = absurd (b refl)
-header_none p sizes (suc (suc zero)) a b c d e = absurd (c refl)
-header_none p sizes (suc (suc (suc zero))) a b c d e = absurd (d refl)
-header_none p sizes (suc (suc (suc (suc zero)))) a b c d e = refl
-header_none p sizes (suc (suc (suc (suc (suc zero))))) a b c d e = absurd (e refl)
-header_none p sizes (suc (suc (suc (suc (suc (suc w)))))) a b c d e = refl
 
 -- ---- `directory_number`
 module _ (p : ℕ) (sizes : List ℕ) (w : ℕ) where
@@ -130,25 +72,9 @@ module _ {l : Layout} {sizes : List ℕ} (d : Laid l sizes) (w : ℕ) where
 pub page_fits_lem : {l : Layout} {sizes : List ℕ} → Laid l sizes → {r : ℕ} → r < l.streams → {v : ℕ} → v ≡ data_page l.pagesize r → Fits w32 v
 page_fits_lem d m e = record { fits = rw e (laid_page d (omega arith)) }
 
-pub laid_size : {l : Layout} {sizes : List ℕ} → Laid l sizes → PageSize l.pagesize
-laid_size d = d.size
+pub ruleset in_directory = (page_fits_lem, directory_count, directory_size_lem, directory_page_lem, directory_past)
 
-pub ruleset directory_cases = (directory_count, directory_size_lem, directory_page_lem, directory_past)
-
-pub ruleset location_cases = (location_page_lem, location_past)
-
--- ---- `number_at`
-module _ (l : Layout) (sizes : List ℕ) {which : Numbers} (w v : ℕ) where
-  pub number_header : which ≡ numbers.Header → v ≡ get_or (header_numbers l.pagesize sizes) w 0 → v ≡ get_or (numbers_of l sizes which) w 0
-  number_header e h = rw e h
-
-  pub number_directory : which ≡ numbers.Directory → v ≡ get_or (directory_numbers l.pagesize sizes) w 0 → v ≡ get_or (numbers_of l sizes which) w 0
-  number_directory e h = rw e h
-
-  pub number_location : which ≡ numbers.Location → v ≡ get_or (location_numbers l.pagesize sizes) w 0 → v ≡ get_or (numbers_of l sizes which) w 0
-  number_location e h = rw e h
-
-pub ruleset number_cases = (number_header, number_directory, number_location)
+pub ruleset in_location = (location_rank, location_asks, location_fits, location_page_lem, location_past)
 
 -- ---- `put_numbers`: j numbers are put
 pub record NumbersSoFar (numbers : List ℕ) (first n at : ℕ) (o o₁ : List ℕ) (j place : ℕ) : Type 0 where

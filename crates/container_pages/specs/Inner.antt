@@ -1,14 +1,10 @@
 -- What inner functions promise their callers. None of it is part of an operation's own promise.
 use Rattle.std.specs.Prelude.{◌≡◌, List, ℕ, ◌+◌, ◌-◌, ◌*◌, ◌^◌, ◌≤◌, ◌<◌, length, get_or}
 use Rattle.parse_buffer.specs.Bytes.{File}
-use Rattle.paged.specs.PageSize.{PageSize}
 use Rattle.container_layout.specs.Place.{data_page, pages_with, after}
-use Rattle.container_layout.specs.Layout.{directory_size, is_padding}
-use Rattle.container_layout.specs.Container.{number_bytes, header_numbers, directory_numbers, location_numbers, bits, map_byte}
-use Rattle.container_layout.specs.Planning.{layout_of}
+use Rattle.container_layout.specs.Layout.{is_padding}
+use Rattle.container_layout.specs.Container.{number_bytes, bits, map_byte}
 use Rattle.container_layout.specs.declared.layout.Layout.{Layout}
-use Rattle.container_pages.specs.declared.numbers.Numbers.{Numbers}
-use Rattle.container_pages.specs.declared.numbers.Numbers.TheVariants.{Header, Directory, Location}
 
 -- ---- bytes of a store: those from one place up to another are the file's at the same places, and all else there is as
 -- it was
@@ -23,23 +19,7 @@ pub record Within (from to room : ℕ) : Type 0 where
   pub order : from ≤ to
   pub fits : to ≤ room
 
--- ---- a layout whose numbers have 32 bits, and that of these sizes
-pub record Bounds (l : Layout) : Type 0 where
-  pub size : PageSize l.pagesize
-  pub last : l.last < l.used
-  pub used : l.used < 2 ^ 32
-
-pub record Laid (l : Layout) (sizes : List ℕ) : Type 0 where
-  pub size : PageSize l.pagesize
-  pub is : l ≡ layout_of l.pagesize sizes
-  pub small : directory_size l.pagesize sizes < 2 ^ 32
-
--- ---- `put_numbers`: the numbers, and their bytes from number `first` on, at a place
-abbrev pub numbers_of : Layout → List ℕ → Numbers → List ℕ
-numbers_of l sizes Header = header_numbers l.pagesize sizes
-numbers_of l sizes Directory = directory_numbers l.pagesize sizes
-numbers_of l sizes Location = location_numbers l.pagesize sizes
-
+-- ---- `put_numbers`: the bytes of numbers from number `first` on, at a place
 abbrev pub numbers_from : List ℕ → ℕ → ℕ → File
 numbers_from numbers first at i = number_bytes numbers (4 * first + (i - at))
 

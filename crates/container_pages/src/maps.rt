@@ -1,72 +1,58 @@
 // The free-map pages, and where the data pages begin behind them.
 ghost use Rattle.std.specs.Prelude.{◌≡◌, ◌+◌, ◌-◌, ◌*◌, ◌^◌, ◌≤◌, ◌<◌, min, length};
-ghost use Rattle.paged.specs.PageSize.{PageSize};
 ghost use Rattle.container_layout.specs.Place.{data_page};
-ghost use Rattle.container_pages.specs.Inner.{Bounds, Filled, Beginning, Freeing, low_bits, map_from};
+ghost use Rattle.container_pages.specs.Inner.{Filled, Beginning, Freeing, low_bits, map_from};
 
 use crate::fill::put_zeros;
-use container_layout::{Layout, data_page};
-use paged::least;
+use container_layout::{Planned, data_page};
 
 // The bits in a byte of the free map.
 const BITS: usize = 8;
 
-// Gets ready for the r-th data page: writes the pair of map pages before it, if there is one, and returns the place of
-// the data page. The caller guarantees the room up to there.
-pub fn begin_page(l: Layout, r: usize, out: &mut [u8]) -> usize
-    requires bounds { Bounds l }
+/// Gets ready for the r-th data page: writes the pair of map pages before it, if there is one, and returns the place of
+/// the data page. The caller guarantees the room up to there.
+#[tactic(auto, using(crate::proofs::MapLaws::beginning))]
+pub fn begin_page(planned: &Planned<'_>, r: usize, out: &mut [u8]) -> usize
     requires r_bound { r < 2 ^ 32 }
-    requires room { data_page l.pagesize r * l.pagesize ≤ length out.old }
-    ensures { Beginning l r result out.old out.new }
+    requires room { data_page planned.now.layout.pagesize r * planned.now.layout.pagesize ≤ length out.old }
+    ensures { Beginning planned.now.layout r result out.old out.new }
 {
-    let size = l.pagesize;
-    let at = data_place(size, r);
+    let size = planned.layout.pagesize;
+    let at = data_page(size, r) * size;
     let run = size - 2;
     if r % run == 0 {
         let map = at - 2 * size;
-        put_map(l, r / run, out, map);
+        put_map(planned, r / run, out, map);
         put_zeros(out, map + size, at);
     }
     at
 }
 
-// The place of the r-th data page.
-fn data_place(size: usize, r: usize) -> usize
-    requires page_size { PageSize size }
-    requires r_bound { r < 2 ^ 32 }
-    ensures { result ≡ data_page size r * size }
-{
-    data_page(size, r) * size
-}
-
 // The q-th map page, at a place: bit b of its byte x is that of page 8 * (q * P + x) + b.
-fn put_map(l: Layout, q: usize, out: &mut [u8], at: usize)
-    requires bounds { Bounds l }
+#[tactic(auto, using(crate::proofs::MapLaws::mapping))]
+fn put_map(planned: &Planned<'_>, q: usize, out: &mut [u8], at: usize)
     requires q_bound { q < 2 ^ 32 }
-    requires room { at + l.pagesize ≤ length out.old }
-    ensures { Filled (map_from l q at) out.old at (at + l.pagesize) out.new }
+    requires room { at + planned.now.layout.pagesize ≤ length out.old }
+    ensures { Filled (map_from planned.now.layout q at) out.old at (at + planned.now.layout.pagesize) out.new }
 {
-    let mut x: usize = 0;
-    while x < l.pagesize {
-        out[at + x] = free_bits(l, BITS * (q * l.pagesize + x)) as u8;
-        x += 1;
+    let size = planned.layout.pagesize;
+    for x in 0..size {
+        out[at + x] = free_bits(planned, BITS * (q * size + x)) as u8;
     }
 }
 
 // The bits of eight pages from page n on: 1 for a padding page, which lies behind the last data page.
-fn free_bits(l: Layout, n: usize) -> u32
-    requires { Bounds l }
-    ensures { Freeing l n result }
+#[tactic(auto, using(crate::proofs::MapLaws::freeing))]
+fn free_bits(planned: &Planned<'_>, n: usize) -> u32
+    ensures { Freeing planned.now.layout n result }
 {
-    low_bits(l.used, n) - low_bits(l.last + 1, n)
+    low_bits(planned.layout.used, n) - low_bits(planned.layout.last + 1, n)
 }
 
 // One bit for each of the eight pages from page n on that is below `end`.
+#[tactic(auto, using(crate::proofs::MapLaws::low_shift))]
 fn low_bits(end: usize, n: usize) -> u32
     ensures { result ≡ low_bits (min (end - n) 8) }
 {
-    if end <= n {
-        return 0;
-    }
-    0xff >> (BITS - least(end - n, BITS))
+    0xff >> (BITS - end.saturating_sub(n).min(BITS))
 }

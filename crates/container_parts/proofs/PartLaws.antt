@@ -4,25 +4,23 @@ use mathlib.Core.Bool.{false}
 use mathlib.Core.List.{List}
 use Prim.Native.Nat.{ℕ, ◌+◌, ◌-◌, ◌*◌, ◌/◌, ◌%◌, ◌^◌, ◌≤◌, ◌<◌}
 use native.Mathlib.Omega.{arith}
-use native.Mathlib.Nat.{add-mul, mod-lt, div-add-mod', le-div_iff_mul-le, div-lt_iff_lt-mul, le_antisymm, mul_left_comm, le-max_left}
+use native.Mathlib.Nat.{add-mul, mod-lt, div-add-mod', le-div_iff_mul-le, div-lt_iff_lt-mul, le_antisymm, mul_left_comm}
 use borrow.Author.Tests.{eqb-false}
 use lib.Dec.{eqb}
 use lib.ListN.{length}
 use mir.Syntax.{w64}
 use mir.Val.{Fits}
 use Rattle.outcome.proofs.OutcomeLaws.{by_tests}
-use Rattle.paged.specs.PageSize.{PageSize, need}
+use Rattle.paged.specs.PageSize.{PageSize}
 use Rattle.container_layout.specs.Place.{data_page, rank, pages_with, after}
-use Rattle.header.specs.Header.{header_block}
-use Rattle.container_layout.specs.Layout.{location_page}
 use Rattle.container_layout.specs.Container.{number_bytes}
 use Rattle.container_layout.specs.declared.layout.Layout.{Layout}
 use Rattle.container_layout.proofs.PlaceLaws.{times_up, times_le, data_next, data_rank, after_one, after_most, after_some, after_rises, rank_from, rank_to}
-use Rattle.container_layout.proofs.LayoutLaws.{size_fours, used_small}
+use Rattle.container_layout.proofs.LayoutLaws.{size_fours}
 use Rattle.container_layout.proofs.ContainerLaws.{with_data}
-use Rattle.container_pages.specs.Inner.{Filled, Bounds, Laid, numbers_from, map_of, Beginning}
+use Rattle.container_layout.specs.Laid.{Bounds}
+use Rattle.container_pages.specs.Inner.{Filled, numbers_from, map_of, Beginning}
 use Rattle.container_pages.proofs.FillLaws.{filled_none, filled_more, filled_as}
-use Rattle.container_pages.proofs.NumberLaws.{laid_last, laid_used}
 use Rattle.container_parts.specs.Inner.{Room, part, PartFilled, Numbering}
 
 -- ---- two files with the same maps, whose data is the same from rank a up to rank b
@@ -74,15 +72,6 @@ module _ (l : Layout) (s : PageSize l.pagesize) (first : ℕ) (content : ℕ →
       let back : (j + y / p) * p + y % p ≡ j * p + y = omega (arith, add-mul j (y / p) p) in
       ap (part l first content) place ∙ part_page (j + y / p) (y % p) x ∙ ap content back
 
--- ---- a layout of sizes
-pub laid_bounds : {l : Layout} {sizes : List ℕ} → Laid l sizes → Bounds l
-laid_bounds {l} {sizes} d =
-    record {
-      size = d.size;
-      last = omega (arith, laid_last d, laid_used d, le-max_left (location_page l.pagesize sizes + 1) (need l.pagesize header_block));
-      used = omega (arith, laid_used d, used_small l.pagesize sizes d.size d.small);
-    }
-
 -- ---- room for the next data page
 module _ {l : Layout} (s : PageSize l.pagesize) {b room : ℕ} (h : Room l b room) (r : ℕ) (k : r < b) where
   pub room_rank : r < 2 ^ 32
@@ -115,7 +104,7 @@ pages_none l first pages numbers o h =
     let e : first + 0 ≡ first = omega arith in
     record { filled = rw e (filled_none _ o _); within = omega arith; room = h }
 
-module _ {l : Layout} {sizes : List ℕ} (d : Laid l sizes) {first pages : ℕ} {numbers o o₁ : List ℕ} {j : ℕ} (w : PagesSoFar l first pages numbers o o₁ j) where
+module _ {l : Layout} (d : Bounds l) {first pages : ℕ} {numbers o o₁ : List ℕ} {j : ℕ} (w : PagesSoFar l first pages numbers o o₁ j) where
   module _ (k : j < pages) where
     page_room : data_page l.pagesize (first + j) * l.pagesize + l.pagesize ≤ length o
     page_room = room_page d.size w.room (first + j) (omega arith)
@@ -172,4 +161,4 @@ module _ {l : Layout} {sizes : List ℕ} (d : Laid l sizes) {first pages : ℕ} 
   pub pages_all : pages ≤ j → Numbering l first pages numbers o o₁
   pages_all k = record { filled = rw (le_antisymm k w.within) w.filled }
 
-pub ruleset pages_cases = (pages_none, pages_more, pages_all)
+pub ruleset numbering = (page_rank, page_rank_fits, page_index, page_numbers, pages_none, pages_all)

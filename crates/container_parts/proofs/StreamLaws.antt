@@ -18,7 +18,8 @@ use Rattle.container_layout.specs.Place.{data_page, after}
 use Rattle.container_layout.specs.declared.layout.Layout.{Layout}
 use Rattle.container_layout.proofs.PlaceLaws.{times_le, data_next, after_one, after_most, after_rises}
 use Rattle.container_layout.proofs.LayoutLaws.{data_most}
-use Rattle.container_pages.specs.Inner.{Filled, Within, Bounds, Beginning}
+use Rattle.container_layout.specs.Laid.{Bounds}
+use Rattle.container_pages.specs.Inner.{Filled, Within, Beginning}
 use Rattle.container_pages.proofs.FillLaws.{filled_none, filled_more, filled_as, filled_put}
 use Rattle.container_parts.specs.Inner.{Room, InRun, part, PartFilled, Streaming}
 use Rattle.container_parts.proofs.PartLaws.{size_three, same_pages, part_run, room_run}
@@ -137,6 +138,8 @@ module _ {l : Layout} (b : Bounds l) {r : ℕ} (run o : List ℕ) (q : InRun l r
                   (filled_more (omega (arith, p.place)) order (filled_as copied (filled_put p)) (filled_as zeroed z)));
             }
 
+pub ruleset running = (run_rank, run_begins, run_room, run_bytes, run_end, run_next)
+
 pub run_mul : {l : Layout} → Bounds l → {m : ℕ} (rest : ℕ) → m ≡ l.pagesize - 2 - rest → Fits w64 (m * l.pagesize)
 run_mul {l} b {m} rest c = let s = b.size.most in record { fits = omega (arith, at_most_largest m b.size) }
 
@@ -247,3 +250,5 @@ module _ {l : Layout} (b : Bounds l) {first : ℕ} {stream o o₁ : List ℕ} {i
   pub stream_all : length stream ≤ i → Streaming l first stream o r o₁
   stream_all h =
       record { next = w.rank ∙ ap (λ n. first + need l.pagesize n) (le_antisymm w.within h); filled = w.filled }
+
+pub ruleset streaming = (stream_none, run_mul, stream_less, stream_in_run, stream_all)

@@ -25,12 +25,13 @@ use Rattle.container_layout.specs.declared.layout.Layout.{Layout}
 use Rattle.container_layout.proofs.PlaceLaws.{times_le, after_one, after_some, after_rises}
 use Rattle.container_layout.proofs.LayoutLaws.{bytes_next, bytes_rise, pages_next, pages_rise, size_fours}
 use Rattle.container_layout.proofs.ContainerLaws.{header_magic, header_number, stream_inside, stream_past, data_stream, container_pages}
-use Rattle.container_pages.specs.Inner.{Filled, Laid, numbers_from, map_of}
+use Rattle.container_layout.specs.Laid.{Laid}
+use Rattle.container_pages.specs.Inner.{Filled, numbers_from, map_of}
 use Rattle.container_pages.proofs.FillLaws.{filled_none, filled_more, filled_as, filled_put}
-use Rattle.container_pages.proofs.NumberLaws.{laid_streams, laid_directory, laid_last, laid_used, laid_ranks}
+use Rattle.container_layout.proofs.LaidLaws.{laid_streams, laid_directory, laid_last, laid_used, laid_ranks, laid_bounds}
 use Rattle.container_parts.specs.Inner.{Room, PartFilled, Streaming}
 use Rattle.container_writer.specs.Inner.{Given, Streams}
-use Rattle.container_parts.proofs.PartLaws.{size_three, same_pages, laid_bounds}
+use Rattle.container_parts.proofs.PartLaws.{size_three, same_pages}
 use Rattle.container_parts.proofs.StreamLaws.{need_none}
 
 -- ---- `write_header`
@@ -137,7 +138,7 @@ module _ {l : Layout} {sizes bytes o o₁ : List ℕ} (d : Laid l sizes) (v : Gi
     next_rank = omega (arith, w.pages_are, pages_next sizes l.pagesize k, ap (need l.pagesize) e.is, present_pages l.pagesize pos (get_or sizes k 0))
 
     pub streams_fits : Fits w64 (at + n)
-    streams_fits = record { fits = omega (arith, streams_part, v.short.below) }
+    streams_fits = record { fits = omega (arith, streams_part, v.short) }
 
     pub streams_short : length (take (at + n - at) (drop at bytes)) < 2 ^ 32
     streams_short = rw own e.small
@@ -182,3 +183,5 @@ module _ {l : Layout} {sizes bytes o o₁ : List ℕ} (d : Laid l sizes) (v : Gi
     where
       at_rank : {a b : ℕ} → a ≡ b → Filled (container l.pagesize sizes bytes) o l.pagesize (after l.pagesize a * l.pagesize) o₁ → Filled (container l.pagesize sizes bytes) o l.pagesize (after l.pagesize b * l.pagesize) o₁
       at_rank e y = rw (← e) y
+
+pub ruleset streaming = (streams_none, streams_fits, streams_short, streams_all)

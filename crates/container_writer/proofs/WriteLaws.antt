@@ -10,7 +10,8 @@ use lib.ListN.{length, get_or, length-append, get_or-append}
 use lib.Seq.{sets, get_or_at}
 use mir.Syntax.{w64}
 use mir.Val.{Fits}
-use Rattle.outcome.specs.Outcome.{ok, refused, ◌>>◌, require}
+use Rattle.std.specs.Prelude.{Result, Ok, Err, IsErrAnd}
+use Rattle.outcome.specs.Outcome.{and_next, require, raise}
 use Rattle.outcome.specs.Store.{written}
 use Rattle.outcome.proofs.OutcomeLaws.{below_or}
 use Rattle.parse_buffer.specs.Bytes.{File}
@@ -20,27 +21,25 @@ use Rattle.store.proofs.SetsLaws.{sets_by_entries}
 use Rattle.container_layout.specs.Place.{after}
 use Rattle.container_layout.specs.Layout.{directory_size, directory_pages, file_length}
 use Rattle.container_layout.specs.Container.{number_bytes, header_byte, directory_numbers, location_numbers, container}
-use Rattle.container_layout.specs.Refusal.{refusal_in}
+use Rattle.container_layout.specs.Refusal.{refusal_in, told}
 use Rattle.container_layout.specs.Planning.{layout_of, planning}
-use Rattle.container_layout.specs.Inner.{Short, planned_in, why_planned, Planning}
+use Rattle.container_layout.specs.Laid.{Bounds, Laid}
+use Rattle.container_layout.specs.Inner.{Planning}
 use Rattle.container_layout.specs.declared.refusal.Refusal.{Refusal}
 use Rattle.container_layout.specs.declared.refusal.Refusal.TheVariants.{NoRoom}
 use Rattle.container_layout.specs.declared.layout.Layout.{Layout}
-use Rattle.container_layout.specs.declared.layout.Planned.{Planned}
-use Rattle.container_layout.specs.declared.layout.Planned.TheVariants as planned
 use Rattle.container_layout.proofs.PlaceLaws.{times_le, after_rises, after_some}
 use Rattle.container_layout.proofs.LayoutLaws.{size_fours}
 use Rattle.container_layout.proofs.ContainerLaws.{data_directory, data_location, container_header}
 use Rattle.container_layout.proofs.PlannedLaws.{Plan, plan_of, padding_zero}
-use Rattle.container_pages.specs.Inner.{Filled, Within, Laid}
+use Rattle.container_pages.specs.Inner.{Filled, Within}
 use Rattle.container_pages.proofs.FillLaws.{filled_more, filled_as}
-use Rattle.container_pages.proofs.NumberLaws.{laid_streams, laid_directory, laid_last, laid_used, laid_ranks}
+use Rattle.container_layout.proofs.LaidLaws.{laid_streams, laid_directory, laid_last, laid_used, laid_ranks, laid_bounds}
 use Rattle.container_writer.specs.Writing.{first_bytes, writing}
-use Rattle.container_writer.specs.Promises.{written_in, Writing}
+use Rattle.container_writer.specs.Promises.{Writing}
 use Rattle.container_parts.specs.Inner.{Room, Numbering}
 use Rattle.container_writer.specs.Inner.{Given, Streams, Data}
-use Rattle.container_writer.specs.declared.write.Written.TheVariants as written'
-use Rattle.container_parts.proofs.PartLaws.{size_three, laid_bounds}
+use Rattle.container_parts.proofs.PartLaws.{size_three}
 use Rattle.container_writer.proofs.FileLaws.{filled_part, last_after, file_room}
 
 -- ---- the first bytes of a file
@@ -171,16 +170,20 @@ module _ {l : Layout} {sizes : List ℕ} (d : Laid l sizes) (o : List ℕ) (h : 
             first_filled (container l.pagesize sizes bytes) (l.used * l.pagesize) h
             (filled_more (omega arith) (omega (arith, last_up d)) head (filled_more some (last_up d) y.filled (filled_as (is_padding_lem v) e)))
 
--- ---- `write_container`
-module _ {p : ℕ} {sizes : List ℕ} {given : ℕ} {r : Planned} (a : Planning p sizes given r) where
-  plan_refused : {why : Refusal} → r ≡ planned.Refused why → planning p sizes given ≡ refused (refusal_in why)
-  unfolding planned_in
-  plan_refused e = sym a.answer ∙ ap planned_in e
+pub ruleset file_parts = (used_fits, last_fits, padding_fits, header_room, data_room, padding_within, file_length_lem, file_written)
 
-  module _ {l : Layout} (e : r ≡ planned.Layout l) where
-    plan_ok : planning p sizes given ≡ ok l
-    unfolding planned_in
-    plan_ok = sym a.answer ∙ ap planned_in e
+pub ruleset data_parts = (ranks_fit, directory_few, location_few, location_room, data_length)
+
+-- ---- `write_container`
+module _ {p : ℕ} {sizes : List ℕ} {given : ℕ} {r : Result Layout Refusal} (a : Planning p sizes given r) where
+  plan_refused : {why : Refusal} → r ≡ Err why → planning p sizes given ≡ Err (refusal_in why)
+  unfolding raise
+  plan_refused e = sym a.answer ∙ ap told e
+
+  module _ {l : Layout} (e : r ≡ Ok l) where
+    plan_ok : planning p sizes given ≡ Ok l
+    unfolding raise
+    plan_ok = sym a.answer ∙ ap told e
 
     plan : Plan p sizes given
     plan = (plan_of p sizes given plan_ok).0
@@ -197,29 +200,32 @@ module _ {p : ℕ} {sizes : List ℕ} {given : ℕ} {r : Planned} (a : Planning 
     pub plan_laid : Laid l sizes
     plan_laid = record { size = rw size_is plan.size; is = is ∙ ap (λ q. layout_of q sizes) (sym size_is); small = rw size_is plan.small }
 
+    pub plan_bounds : Bounds l
+    plan_bounds = laid_bounds plan_laid
+
     pub plan_fits : Fits w64 (l.used * l.pagesize)
     plan_fits = used_fits plan_laid
 
-pub plan_given : {p : ℕ} {sizes bytes : List ℕ} {r : Planned} → Planning p sizes (length bytes) r → Short (length bytes) → {l : Layout} → r ≡ planned.Layout l → Given l.pagesize sizes bytes
+pub plan_given : {p : ℕ} {sizes bytes : List ℕ} {r : Result Layout Refusal} → Planning p sizes (length bytes) r → length bytes < 2 ^ 63 → {l : Layout} → r ≡ Ok l → Given l.pagesize sizes bytes
 plan_given a s e =
     record { all = (plan a e).sum; short = s; one = rw (size_is a e) (plan a e).list }
 
-module _ {p : ℕ} {sizes : List ℕ} (bytes o : List ℕ) {r : Planned} (a : Planning p sizes (length bytes) r) where
-  pub write_refused : {why v : Refusal} → r ≡ planned.Refused why → v ≡ why_planned r → Writing p sizes bytes o (written'.Refused v) o
-  unfolding writing written_in written ◌>>◌
-  write_refused e u =
-      let no = plan_refused a e in record { answer = rw (no, u, e); after = rw no }
+module _ {p : ℕ} {sizes : List ℕ} (bytes o : List ℕ) {r : Result Layout Refusal} (a : Planning p sizes (length bytes) r) where
+  pub write_refused : {why : Refusal} → r ≡ Err why → {r' : Result ℕ Refusal} → IsErrAnd r' (λ e. e ≡ why) → Writing p sizes bytes o r' o
+  unfolding writing written and_next raise
+  write_refused e {r' = Ok n} h = absurd h
+  write_refused e {r' = Err v} h = let no = plan_refused a e in record { answer = rw (no, h); after = rw no }
 
-  module _ {l : Layout} (e : r ≡ planned.Layout l) where
-    pub write_no_room : length o < l.used * l.pagesize → Writing p sizes bytes o (written'.Refused (NoRoom (l.used * l.pagesize))) o
-    unfolding writing written_in written require ◌>>◌
+  module _ {l : Layout} (e : r ≡ Ok l) where
+    pub write_no_room : length o < l.used * l.pagesize → Writing p sizes bytes o (Err (NoRoom (l.used * l.pagesize))) o
+    unfolding writing written require and_next raise
     write_no_room h =
         let n = needed_is a e in
         let short = lt-leb (file_length p sizes) (length o) (rw (← n) h) in
         record { answer = rw (plan_ok a e, short, n); after = rw (plan_ok a e, short) }
 
-    pub write_fine : l.used * l.pagesize ≤ length o → {o' : List ℕ} → o' ≡ sets o 0 (first_bytes (container l.pagesize sizes bytes) (l.used * l.pagesize)) → Writing p sizes bytes o (written'.Length (l.used * l.pagesize)) o'
-    unfolding writing written_in written require ◌>>◌
+    pub write_fine : l.used * l.pagesize ≤ length o → {o' : List ℕ} → o' ≡ sets o 0 (first_bytes (container l.pagesize sizes bytes) (l.used * l.pagesize)) → Writing p sizes bytes o (Ok (l.used * l.pagesize)) o'
+    unfolding writing written require and_next raise
     write_fine h w =
         let n = needed_is a e in
         let room = le-leb (file_length p sizes) (length o) (rw (← n) h) in
@@ -230,5 +236,3 @@ module _ {p : ℕ} {sizes : List ℕ} (bytes o : List ℕ) {r : Planned} (a : Pl
               ∙ ap (λ m. sets o 0 (first_bytes (container p sizes bytes) m)) n
               ∙ rw (plan_ok a e, room);
         }
-
-pub ruleset write_cases = (write_refused, write_no_room, write_fine)

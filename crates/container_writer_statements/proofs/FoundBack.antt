@@ -6,10 +6,11 @@ use mathlib.Core.Logic.{⊎_elim}
 use mathlib.Core.List.{List}
 use Prim.Native.Nat.{ℕ, ◌+◌, ◌-◌, min, ◌≤◌, ◌<◌}
 use native.Mathlib.Omega.{arith}
-use borrow.Author.Tests.{lt-ltb, le-ltb, ltb-true, eqb-false, not-true}
+use borrow.Author.Tests.{ne_eqb, lt-ltb, le-ltb, ltb-true, eqb-false, not-true}
 use lib.Dec.{eqb}
 use lib.ListN.{length, get_or}
-use Rattle.outcome.specs.Outcome.{Outcome, ok, refused, ◌>>=◌, ◌>>◌, require}
+use Rattle.std.specs.Prelude.{Option, Result, Ok, Err}
+use Rattle.outcome.specs.Outcome.{and_next, and_then, ◌>>=◌, ◌>>◌, require}
 use Rattle.outcome.proofs.OutcomeLaws.{below_or, came, passed, ok_is}
 use Rattle.parse_buffer.specs.Bytes.{File}
 use Rattle.paged.specs.PageSize.{need}
@@ -18,12 +19,10 @@ use Rattle.paged.specs.declared.refusal.Refusal.TheVariants.{StreamNotFound}
 use Rattle.paged.proofs.SizeLaws.{need_rises}
 use Rattle.header.specs.Header.{words}
 use Rattle.stream.specs.Stream.{absent, pages_of, present, skipped_to, own_page, found}
-use Rattle.stream.proofs.StreamLaws.{pages_present}
 use Rattle.stream.specs.declared.Found.{Found}
 use Rattle.stream.specs.declared.Present.{Present}
 use Rattle.extent.specs.Extent.{length_of, asked_of, asked, readable}
 use Rattle.extent.proofs.ExtentLaws.{length_most}
-use Rattle.extent.specs.declared.limit.Limit.{Limit}
 use Rattle.container_layout.specs.Place.{data_page}
 use Rattle.container_layout.specs.Layout.{pages_up_to, stream_pages}
 use Rattle.container_layout.proofs.LayoutLaws.{pages_next, pages_rise}
@@ -39,7 +38,7 @@ pub record Given (sizes : List ℕ) (k size : ℕ) : Type 0 where
   pub present : size ≡ absent → ⊥
   pub is : size ≡ get_or sizes k 0
 
-pub given : (sizes : List ℕ) (k : ℕ) {size : ℕ} → given_size sizes k ≡ ok size → Given sizes k size
+pub given : (sizes : List ℕ) (k : ℕ) {size : ℕ} → given_size sizes k ≡ Ok size → Given sizes k size
 unfolding given_size
 given sizes k e =
     came _ _ e λ _ there e₁.
@@ -51,21 +50,22 @@ given sizes k e =
     }
 
 pub given_pages : (p : ℕ) {sizes : List ℕ} {k size : ℕ} → Given sizes k size → need p size ≡ pages_of p (get_or sizes k 0)
-given_pages p {size = size} g = pages_present p size g.present refl ∙ ap (pages_of p) g.is
+unfolding pages_of
+given_pages p {size = size} g = rw (← g.is, ne_eqb size absent g.present)
 
 -- ---- a block that begins as another does goes on from there
-pub onward : {E A B C : Type 0} (o : Outcome E C) (start : C → Outcome E A) {x : Outcome E A} (next : A → Outcome E B) (then : C → Outcome E B) → x ≡ o >>= start → ((c : C) → o ≡ ok c → start c >>= next ≡ then c) → x >>= next ≡ o >>= then
-unfolding ◌>>=◌
-onward (ok c) start next then e h = ap (λ z. z >>= next) e ∙ h c refl
-onward (refused why) start next then e h = ap (λ z. z >>= next) e
+pub onward : {E A B C : Type 0} (o : Result C E) (start : C → Result A E) {x : Result A E} (next : A → Result B E) (then : C → Result B E) → x ≡ o >>= start → ((c : C) → o ≡ Ok c → start c >>= next ≡ then c) → x >>= next ≡ o >>= then
+unfolding and_then
+onward (Ok c) start next then e h = ap (λ z. z >>= next) e ∙ h c refl
+onward (Err why) start next then e h = ap (λ z. z >>= next) e
 
 module _ {p : ℕ} {sizes bytes : List ℕ} (a : Accepted p sizes (length bytes)) {f : File} {len : ℕ} (h : Holds f len p sizes bytes) (k : ℕ) where
   -- ---- its size
   abbrev present_as : ℕ → Present
   present_as size = record { header = header_of a h; count = length sizes; size = size }
 
-  present_back : present f len k ≡ given_size sizes k >>= λ size. ok (present_as size)
-  unfolding present given_size require ◌>>=◌ ◌>>◌
+  present_back : present f len k ≡ given_size sizes k >>= λ size. Ok (present_as size)
+  unfolding present given_size require and_then and_next
   present_back =
       ⊎_elim
       (λ (l : k < length sizes).
@@ -74,7 +74,7 @@ module _ {p : ℕ} {sizes bytes : List ℕ} (a : Accepted p sizes (length bytes)
       (λ (l : length sizes ≤ k). rw (reached_back a h, holds_back a h 1 (omega arith), count_back a h, le-ltb k (length sizes) l))
       (below_or k (length sizes))
     where
-      go : (b : Bool) → require b (refusal_in (StreamNotFound (record { 0 = k }))) >> ok (present_as (get_or sizes k 0)) ≡ (require b (refusal_in (StreamNotFound (record { 0 = k }))) >> ok (get_or sizes k 0)) >>= λ size. ok (present_as size)
+      go : (b : Bool) → require b (refusal_in (StreamNotFound (record { 0 = k }))) >> Ok (present_as (get_or sizes k 0)) ≡ (require b (refusal_in (StreamNotFound (record { 0 = k }))) >> Ok (get_or sizes k 0)) >>= λ size. Ok (present_as size)
       go true = refl
       go false = refl
 
@@ -88,10 +88,10 @@ module _ {p : ℕ} {sizes bytes : List ℕ} (a : Accepted p sizes (length bytes)
       let l = g.there in
       omega (arith, given_pages p g, pages_next sizes p k, pages_rise sizes p (k + 1) (length sizes) (omega arith))
 
-  skipped_back : skipped_to f len k ≡ given_size sizes k >>= λ size. ok (found_as size)
-  unfolding skipped_to require ◌>>=◌ ◌>>◌
+  skipped_back : skipped_to f len k ≡ given_size sizes k >>= λ size. Ok (found_as size)
+  unfolding skipped_to require and_then and_next
   skipped_back =
-      onward (given_size sizes k) (λ size. ok (present_as size)) _ _ present_back
+      onward (given_size sizes k) (λ size. Ok (present_as size)) _ _ present_back
       (λ size e.
       let g = given sizes k e in
       let l = g.there in
@@ -102,10 +102,10 @@ module _ {p : ℕ} {sizes bytes : List ℕ} (a : Accepted p sizes (length bytes)
       let place : 1 + length sizes + pages_up_to p sizes k + j ≡ 1 + length sizes + (pages_up_to p sizes k + j) = omega arith in
       rw place (entry_back a h (pages_up_to p sizes k + j) (omega (arith, pages_within g)))
 
-  pub found_back : found f len k ≡ given_size sizes k >>= λ size. ok (found_as size)
-  unfolding found require ◌>>=◌ ◌>>◌
+  pub found_back : found f len k ≡ given_size sizes k >>= λ size. Ok (found_as size)
+  unfolding found require and_then and_next
   found_back =
-      onward (given_size sizes k) (λ size. ok (found_as size)) _ _ skipped_back
+      onward (given_size sizes k) (λ size. Ok (found_as size)) _ _ skipped_back
       (λ size e.
       let g = given sizes k e in
       let w = pages_within g in
@@ -113,14 +113,14 @@ module _ {p : ℕ} {sizes bytes : List ℕ} (a : Accepted p sizes (length bytes)
       rw (held, pages_fit a (pages_up_to p sizes k) (need p size) (own_back g) (omega arith), holds_back a h (1 + length sizes + pages_up_to p sizes k + need p size) (omega arith)))
 
   -- ---- what is asked of it, and that it lies in the file
-  pub asked_back : (limit : Limit) → asked f len k limit ≡ given_size sizes k >>= λ size. ok (asked_of limit (found_as size))
-  unfolding asked ◌>>=◌
-  asked_back limit = onward (given_size sizes k) (λ size. ok (found_as size)) _ _ found_back (λ size e. refl)
+  pub asked_back : (limit : Option ℕ) → asked f len k limit ≡ given_size sizes k >>= λ size. Ok (asked_of limit (found_as size))
+  unfolding asked and_then
+  asked_back limit = onward (given_size sizes k) (λ size. Ok (found_as size)) _ _ found_back (λ size e. refl)
 
-  pub readable_back : (limit : Limit) → readable f len k limit ≡ given_size sizes k >>= λ size. ok (asked_of limit (found_as size))
-  unfolding readable ◌>>=◌ ◌>>◌
+  pub readable_back : (limit : Option ℕ) → readable f len k limit ≡ given_size sizes k >>= λ size. Ok (asked_of limit (found_as size))
+  unfolding readable and_then and_next
   readable_back limit =
-      onward (given_size sizes k) (λ size. ok (asked_of limit (found_as size))) _ _ (asked_back limit)
+      onward (given_size sizes k) (λ size. Ok (asked_of limit (found_as size))) _ _ (asked_back limit)
       (λ size e.
       let g = given sizes k e in
       let w = pages_within g in

@@ -11,3 +11,4 @@ pub mod OwnLaws
 pub mod Exactly
 pub mod Told
 pub mod StoredLaws
+pub mod Statements

@@ -8,7 +8,8 @@ use native.Mathlib.Omega.{arith}
 use native.Mathlib.Nat.{zero-add, add-zero}
 use borrow.Author.Tests.{le-leb, lt-ltb}
 use lib.ListN.{length}
-use Rattle.outcome.specs.Outcome.{ok, ◌>>=◌, ◌>>◌, require}
+use Rattle.std.specs.Prelude.{Ok}
+use Rattle.outcome.specs.Outcome.{and_next, and_then, require}
 use Rattle.outcome.specs.Each.{each}
 use Rattle.outcome.proofs.EachLaws.{each_none, each_run}
 use Rattle.parse_buffer.specs.Bytes.{File, byte_at}
@@ -30,20 +31,20 @@ use Rattle.container_writer_statements.proofs.AcceptedLaws.{plan, large, big, so
 use Rattle.container_writer_statements.proofs.WordsBack.{words_back, location_back, list_back, count_back}
 
 -- ---- places that all pass
-all_pass : {E : Type 0} (fine : ℕ → Bool) (why : ℕ → E) (n : ℕ) → ((j : ℕ) → j < n → fine j ≡ true) → each fine why n ≡ ok tt
+all_pass : {E : Type 0} (fine : ℕ → Bool) (why : ℕ → E) (n : ℕ) → ((j : ℕ) → j < n → fine j ≡ true) → each fine why n ≡ Ok tt
 all_pass fine why n h =
     rw zero-add at (each_run fine why 0 n (each_none fine why) (λ j l. rw zero-add (h j l)))
 
 -- ---- the tests on the numbers of data pages, from the r-th on
 module _ {p : ℕ} {sizes : List ℕ} {given : ℕ} (a : Accepted p sizes given) {page : ℕ → ℕ} (r n : ℕ) (is : (j : ℕ) → j < n → page j ≡ data_page p (r + j)) (within : r + n ≤ suc (stream_pages p sizes + directory_pages p sizes)) where
-  pub pages_fit : check_pages (pages_used p sizes) page n ≡ ok tt
+  pub pages_fit : check_pages (pages_used p sizes) page n ≡ Ok tt
   pages_fit =
       all_pass _ _ n λ j l.
       let d = data_least p (big a) (r + j) in
       let u = data_used a (r + j) (omega arith) in
       rw (is j l) (sym (fits_by _ _ (λ z. omega arith)) ∙ lt-ltb _ _ u)
 
-  pub pages_lie : (len bytes : ℕ) → file_length p sizes ≤ len → lies_in_file len p page bytes n ≡ ok tt
+  pub pages_lie : (len bytes : ℕ) → file_length p sizes ≤ len → lies_in_file len p page bytes n ≡ Ok tt
   pages_lie len bytes long =
       all_pass _ _ n λ j l.
       let w = data_within a (r + j) (omega arith) (wanted p bytes j) (omega arith) in
@@ -63,12 +64,12 @@ module _ {p : ℕ} {sizes bytes : List ℕ} (a : Accepted p sizes (length bytes)
   header_is : header_at f ≡ header_of
   header_is = let w = words_back a h in rw (w.size, w.used, w.directory)
 
-  sized_back : sized header_of ≡ ok header_of
-  unfolding sized require ◌>>◌
+  sized_back : sized header_of ≡ Ok header_of
+  unfolding sized require and_next
   sized_back = rw (plan a).size.fits
 
-  headed_back : headed f len ≡ ok header_of
-  unfolding headed require ◌>>◌
+  headed_back : headed f len ≡ Ok header_of
+  unfolding headed require and_next
   headed_back =
       rw (le-leb header_block len (omega (arith, h.long, block_within a)), magic_back) (ap sized header_is ∙ sized_back)
 
@@ -85,18 +86,18 @@ module _ {p : ℕ} {sizes bytes : List ℕ} (a : Accepted p sizes (length bytes)
       let first : j ≡ 0 = omega arith in
       rw (first, add-zero) (location_back a h)
 
-  pub located_back : located f len ≡ ok header_of
-  unfolding located require ◌>>=◌ ◌>>◌
+  pub located_back : located f len ≡ Ok header_of
+  unfolding located require and_then and_next
   located_back =
       rw (headed_back, one_page, pages_fit a (stream_pages p sizes + directory_pages p sizes) 1 location_is (omega arith))
 
-  pub opening_back : opening f len ≡ ok (record { pagesize = p; used = pages_used p sizes })
-  unfolding opening ◌>>=◌
+  pub opening_back : opening f len ≡ Ok (record { pagesize = p; used = pages_used p sizes })
+  unfolding opening and_then
   opening_back = rw located_back
 
   -- ---- steps 4 and 5
-  pub reached_back : reached f len ≡ ok header_of
-  unfolding listed reached ◌>>=◌ ◌>>◌
+  pub reached_back : reached f len ≡ Ok header_of
+  unfolding listed reached and_then and_next
   reached_back =
       rw (
         located_back,
@@ -110,6 +111,6 @@ module _ {p : ℕ} {sizes bytes : List ℕ} (a : Accepted p sizes (length bytes)
   pub holds_back : (w : ℕ) → w ≤ 1 + length sizes + stream_pages p sizes → holds header_of w ≡ true
   holds_back w l = le-leb w (words header_of) (omega arith)
 
-  pub stream_count_back : stream_count f len ≡ ok (length sizes)
-  unfolding stream_count require ◌>>=◌ ◌>>◌
+  pub stream_count_back : stream_count f len ≡ Ok (length sizes)
+  unfolding stream_count require and_then and_next
   stream_count_back = rw (reached_back, holds_back 1 (omega arith), count_back a h)

@@ -6,7 +6,8 @@ use native.Mathlib.Omega.{arith}
 use borrow.Author.Tests.{leb-true}
 use lib.ListN.{length}
 use lib.Seq.{sets, length-sets, get_or-take}
-use Rattle.outcome.specs.Outcome.{ok}
+use Rattle.std.specs.Prelude.{Ok}
+use Rattle.outcome.specs.Outcome.{raise}
 use Rattle.outcome.specs.Store.{written}
 use Rattle.outcome.proofs.OutcomeLaws.{came, ok_is, passed}
 use Rattle.parse_buffer.specs.Bytes.{File, byte_at}
@@ -16,36 +17,35 @@ use Rattle.container_layout.specs.Container.{container}
 use Rattle.container_layout.specs.Planning.{layout_of, planning}
 use Rattle.container_layout.proofs.PlannedLaws.{plan_of}
 use Rattle.container_writer.specs.Writing.{first_bytes, writing}
-use Rattle.container_writer.specs.Promises.{written_in, Writing}
-use Rattle.container_writer.specs.declared.write.Written.TheVariants.{Length}
+use Rattle.container_writer.specs.Promises.{Writing}
 use Rattle.container_writer.proofs.WriteLaws.{first_length, first_at}
 use Rattle.container_writer_statements.specs.Accepted.{Words}
 use Rattle.container_writer_statements.specs.Stored.{StoredFile, Stored}
 
 -- ---- each line of writing passed
 record Judged (p : ℕ) (sizes : List ℕ) (given room n : ℕ) : Type 0 where
-  plan : planning p sizes given ≡ ok (layout_of p sizes)
+  plan : planning p sizes given ≡ Ok (layout_of p sizes)
   size : n ≡ file_length p sizes
   within : n ≤ room
 
-judged : (p : ℕ) (sizes : List ℕ) (given room n : ℕ) → writing p sizes given room ≡ ok n → Judged p sizes given room n
+judged : (p : ℕ) (sizes : List ℕ) (given room n : ℕ) → writing p sizes given room ≡ Ok n → Judged p sizes given room n
 unfolding writing
 judged p sizes given room n e =
     came _ _ e λ l plan e₁.
     came _ _ e₁ λ _ fits e₂.
     let size : file_length p sizes ≡ n = ok_is e₂ in
     record {
-      plan = plan ∙ ap ok (plan_of p sizes given plan).1;
+      plan = plan ∙ ap Ok (plan_of p sizes given plan).1;
       size = sym size;
       within = rw (← size) (leb-true _ _ (passed _ _ fits));
     }
 
-module _ (p : ℕ) (sizes bytes out : List ℕ) (n : ℕ) (out' : List ℕ) (w : Writing p sizes bytes out (Length n) out') where
+module _ (p : ℕ) (sizes bytes out : List ℕ) (n : ℕ) (out' : List ℕ) (w : Writing p sizes bytes out (Ok n) out') where
   abbrev file : File
   file = container p sizes bytes
 
-  is_ok : writing p sizes (length bytes) (length out) ≡ ok n
-  unfolding written_in
+  is_ok : writing p sizes (length bytes) (length out) ≡ Ok n
+  unfolding raise
   is_ok = sym w.answer
 
   j : Judged p sizes (length bytes) (length out) n

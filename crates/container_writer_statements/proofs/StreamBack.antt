@@ -8,7 +8,8 @@ use native.Mathlib.Omega.{arith}
 use lib.Dec.{leb}
 use lib.ListN.{length, get_or, length-take, length-drop}
 use lib.Seq.{get_or-take, get_or-drop, ext_get_or}
-use Rattle.outcome.specs.Outcome.{Outcome, ok, refused, ◌>>=◌, ◌>>◌, require}
+use Rattle.std.specs.Prelude.{Option, Result, Ok, Err}
+use Rattle.outcome.specs.Outcome.{and_next, and_then, ◌>>=◌, ◌>>◌, require}
 use Rattle.outcome.specs.Refusal as paper
 use Rattle.outcome.specs.Store.{written}
 use Rattle.outcome.proofs.OutcomeLaws.{came, came_by, ok_is}
@@ -21,7 +22,6 @@ use Rattle.paged.proofs.SizeLaws.{need_index}
 use Rattle.stream.specs.Stream.{pages_of, own_page}
 use Rattle.extent.specs.Extent.{length_of, Asked, asked_of}
 use Rattle.extent.proofs.ExtentLaws.{length_most}
-use Rattle.extent.specs.declared.limit.Limit.{Limit}
 use Rattle.slices.specs.Slices.{continues, slices_of, cut}
 use Rattle.mapping.specs.Mapping.{slices_in, mapping, mapped}
 use Rattle.msf.specs.Extraction.{bytes_in, extraction, length_in}
@@ -37,13 +37,13 @@ use Rattle.container_writer_statements.proofs.FoundBack.{Given, given, given_pag
 
 -- ---- a value that passes one test more
 module _ {E A B : Type 0} (why : E) (x : A) where
-  kept : (b : Bool) (g : A → B) → (require b why >> ok x) >>= (λ y. ok (g y)) ≡ require b why >> ok (g x)
-  unfolding require ◌>>=◌ ◌>>◌
+  kept : (b : Bool) (g : A → B) → (require b why >> Ok x) >>= (λ y. Ok (g y)) ≡ require b why >> Ok (g x)
+  unfolding require and_then and_next
   kept true g = refl
   kept false g = refl
 
-  kept_written : {D : Type 0} (b : Bool) (y : B) (s : A → List D) (t : B → List D) (store : List D) → s x ≡ t y → written (require b why >> ok x) s store ≡ written (require b why >> ok y) t store
-  unfolding require written ◌>>◌
+  kept_written : {D : Type 0} (b : Bool) (y : B) (s : A → List D) (t : B → List D) (store : List D) → s x ≡ t y → written (require b why >> Ok x) s store ≡ written (require b why >> Ok y) t store
+  unfolding require written and_next
   kept_written true y s t store e = rw e
   kept_written false y s t store e = refl
 
@@ -57,18 +57,18 @@ unfolding slices_of
 slices_same p zero h = refl
 slices_same p (suc n) h = rw (slices_same p n (λ j l. h j (omega arith)), continues_same n h, h n (omega arith))
 
-module _ {p : ℕ} {sizes bytes : List ℕ} (a : Accepted p sizes (length bytes)) {f : File} {len : ℕ} (h : Holds f len p sizes bytes) (k : ℕ) (limit : Limit) where
+module _ {p : ℕ} {sizes bytes : List ℕ} (a : Accepted p sizes (length bytes)) {f : File} {len : ℕ} (h : Holds f len p sizes bytes) (k : ℕ) (limit : Option ℕ) where
   abbrev asked_as : ℕ → Asked
   asked_as size = asked_of limit (found_as a h k size)
 
   -- ---- extraction
-  abbrev roomy : {A : Type 0} → ℕ → ℕ → A → Outcome paper.Refusal A
-  roomy room size x = require (leb (length_of limit size) room) (refusal_in (NoRoom (length_of limit size))) >> ok x
+  abbrev roomy : {A : Type 0} → ℕ → ℕ → A → Result A paper.Refusal
+  roomy room size x = require (leb (length_of limit size) room) (refusal_in (NoRoom (length_of limit size))) >> Ok x
 
   extraction_back : (room : ℕ) → extraction f len k limit room ≡ given_size sizes k >>= λ size. roomy room size (asked_as size)
-  unfolding extraction ◌>>=◌
+  unfolding extraction and_then
   extraction_back room =
-      onward (given_size sizes k) (λ size. ok (asked_as size)) _ _ (readable_back a h k limit) (λ size e. refl)
+      onward (given_size sizes k) (λ size. Ok (asked_as size)) _ _ (readable_back a h k limit) (λ size e. refl)
 
   length_back : (room : ℕ) → length_in (extraction f len k limit room) ≡ given_length sizes k limit room
   unfolding length_in given_length
@@ -105,25 +105,25 @@ module _ {p : ℕ} {sizes bytes : List ℕ} (a : Accepted p sizes (length bytes)
         (λ i l. let m : i < n = omega arith in through_at f p page n i m ∙ byte_back i (omega arith) ∙ rw (get_or-take, get_or-drop))
 
   store_back : (out : List ℕ) → written (extraction f len k limit (length out)) (bytes_in f) out ≡ written (given_length sizes k limit (length out)) (given_bytes sizes bytes k) out
-  unfolding given_length ◌>>=◌ written
+  unfolding given_length and_then written
   store_back out = ap (λ o. written o (bytes_in f) out) (extraction_back (length out)) ∙ go (given_size sizes k) refl
     where
-      go : (o : Outcome paper.Refusal ℕ) → given_size sizes k ≡ o → written (o >>= λ size. roomy (length out) size (asked_as size)) (bytes_in f) out ≡ written (o >>= λ size. roomy (length out) size (length_of limit size)) (given_bytes sizes bytes k) out
-      go (ok size) e = kept_written _ (asked_as size) _ (length_of limit size) (bytes_in f) (given_bytes sizes bytes k) out (bytes_back (given sizes k e))
-      go (refused w) e = refl
+      go : (o : Result ℕ paper.Refusal) → given_size sizes k ≡ o → written (o >>= λ size. roomy (length out) size (asked_as size)) (bytes_in f) out ≡ written (o >>= λ size. roomy (length out) size (length_of limit size)) (given_bytes sizes bytes k) out
+      go (Ok size) e = kept_written _ (asked_as size) _ (length_of limit size) (bytes_in f) (given_bytes sizes bytes k) out (bytes_back (given sizes k e))
+      go (Err w) e = refl
 
   -- ---- mapping
   slices_back : {size : ℕ} → Given sizes k size → slices_in f (asked_as size) ≡ written_slices p sizes k limit
   slices_back {size} g =
       rw (← given_pages p g, ← g.is) (ap (cut (length_of limit size)) (slices_same p (need p size) (own_back a h k g)))
 
-  abbrev enough : {A : Type 0} → ℕ → A → Outcome paper.Refusal A
-  enough room x = require (leb (length (written_slices p sizes k limit)) room) (refusal_in (NoRoom (length (written_slices p sizes k limit)))) >> ok x
+  abbrev enough : {A : Type 0} → ℕ → A → Result A paper.Refusal
+  enough room x = require (leb (length (written_slices p sizes k limit)) room) (refusal_in (NoRoom (length (written_slices p sizes k limit)))) >> Ok x
 
   mapping_back : (room : ℕ) → mapping f len k limit room ≡ given_size sizes k >>= λ size. enough room (asked_as size)
-  unfolding mapping ◌>>=◌
+  unfolding mapping and_then
   mapping_back room =
-      onward (given_size sizes k) (λ size. ok (asked_as size)) _ _ (asked_back a h k limit) (λ size e. rw (slices_back (given sizes k e)))
+      onward (given_size sizes k) (λ size. Ok (asked_as size)) _ _ (asked_back a h k limit) (λ size e. rw (slices_back (given sizes k e)))
 
   mapped_back : (room : ℕ) → mapped f (mapping f len k limit room) ≡ given_mapping p sizes k limit room
   unfolding mapped given_mapping
@@ -131,7 +131,7 @@ module _ {p : ℕ} {sizes bytes : List ℕ} (a : Accepted p sizes (length bytes)
       onward (given_size sizes k) _ _ _ (mapping_back room)
       (λ size e. kept _ (asked_as size) _ (λ x. record { slices = length (slices_in f x); length = x.length }) ∙ rw (slices_back (given sizes k e)))
 
-  slices_of_lem : (room : ℕ) {x : Asked} → mapping f len k limit room ≡ ok x → slices_in f x ≡ written_slices p sizes k limit
+  slices_of_lem : (room : ℕ) {x : Asked} → mapping f len k limit room ≡ Ok x → slices_in f x ≡ written_slices p sizes k limit
   slices_of_lem room e =
       came_by _ _ (sym (mapping_back room) ∙ e) λ size g e₁.
       came _ _ e₁ λ _ _ e₂.

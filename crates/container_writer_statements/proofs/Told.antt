@@ -4,16 +4,15 @@ use mathlib.Core.Bool.{cond}
 use Prim.Native.Nat.{ℕ}
 use lib.Dec.{eqb}
 use lib.ListN.{length}
-use Rattle.outcome.specs.Outcome.{Outcome, ok, refused}
+use Rattle.std.specs.Prelude.{Result, Ok, Err}
+use Rattle.outcome.specs.Outcome.{raise}
 use Rattle.outcome.specs.Refusal as paper
 use Rattle.outcome.proofs.OnlyLaws.{read_back, only₂}
+use Rattle.container_layout.specs.Refusal as on_paper
 use Rattle.container_layout.specs.Refusal.{refusal_in}
 use Rattle.container_layout.specs.declared.refusal.Refusal.{Refusal}
 use Rattle.container_layout.specs.declared.refusal.Refusal.TheVariants.{InvalidPageSize, SizesDiffer, DirectoryTooLarge, Over32Bits, NoRoom}
 use Rattle.container_writer.specs.Writing.{writing}
-use Rattle.container_writer.specs.Promises.{written_in}
-use Rattle.container_writer.specs.declared.write.Written.{Written}
-use Rattle.container_writer.specs.declared.write.Written.TheVariants.{Length, Refused}
 use Rattle.container_writer_statements.specs.Stored.{Told, SingleValued}
 
 abbrev refusal_back : paper.Refusal → Refusal
@@ -31,25 +30,24 @@ refusal_is DirectoryTooLarge = refl
 refusal_is Over32Bits = refl
 refusal_is (NoRoom needed) = refl
 
-abbrev written_back : Outcome paper.Refusal ℕ → Written
-written_back (ok n) = Length n
-written_back (refused why) = Refused (refusal_back why)
+abbrev answer_back : Result ℕ paper.Refusal → Result ℕ Refusal
+answer_back r = raise refusal_back r
 
-written_is : (r : Written) → written_back (written_in r) ≡ r
-unfolding written_in
-written_is (Length n) = refl
-written_is (Refused why) = ap Refused (refusal_is why)
+answer_is : (r : Result ℕ Refusal) → answer_back (on_paper.told r) ≡ r
+unfolding raise
+answer_is (Ok n) = refl
+answer_is (Err why) = ap Err (refusal_is why)
 
 pub told : Told
 told =
     record {
       refusal = read_back refusal_in refusal_back refusal_is;
-      written = read_back written_in written_back written_is;
+      written = read_back on_paper.told answer_back answer_is;
     }
 
 pub single_valued : SingleValued
 single_valued =
     record {
       write_container = λ p sizes bytes out a b x y f g.
-          only₂ written_in told.written (writing p sizes (length bytes) (length out)) _ a b x y (f.answer, f.after) (g.answer, g.after);
+          only₂ on_paper.told told.written (writing p sizes (length bytes) (length out)) _ a b x y (f.answer, f.after) (g.answer, g.after);
     }

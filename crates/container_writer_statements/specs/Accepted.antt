@@ -1,6 +1,5 @@
 -- What the statements are about: input that is accepted, and a file that begins with what is written of it.
-use Rattle.std.specs.Prelude.{◌≡◌, List, ℕ, ◌^◌, ◌≤◌, ◌<◌, length, get_or}
-use Rattle.outcome.specs.Outcome.{ok}
+use Rattle.std.specs.Prelude.{◌≡◌, List, ℕ, ◌^◌, ◌≤◌, ◌<◌, length, get_or, Ok}
 use Rattle.parse_buffer.specs.Bytes.{File}
 use Rattle.container_layout.specs.Layout.{file_length}
 use Rattle.container_layout.specs.Container.{container}
@@ -12,7 +11,7 @@ Words sizes = (k : ℕ) → k < length sizes → get_or sizes k 0 < 2 ^ 32
 
 -- planning accepts the page size and the sizes for an input of so many bytes
 pub record Accepted (p : ℕ) (sizes : List ℕ) (given : ℕ) : Type 0 where
-  pub plan : planning p sizes given ≡ ok (layout_of p sizes)
+  pub plan : planning p sizes given ≡ Ok (layout_of p sizes)
   pub words : Words sizes
 
 -- a file of `len` bytes that begins with what is written

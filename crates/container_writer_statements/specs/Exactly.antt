@@ -1,8 +1,7 @@
 -- Request 2026-05, "Refuse: 3; 22 if present sizes don't sum to the input's length; 23 if one location page can't hold
 -- the directory's page numbers; 24 if directory_size or pages_used passes 32 bits; 10; in that order": each exactly
 -- under its condition.
-use Rattle.std.specs.Prelude.{◌≡◌, ◌↔◌, false, List, ℕ, ◌*◌, ◌≤◌, ◌<◌, length}
-use Rattle.outcome.specs.Outcome.{ok, refused}
+use Rattle.std.specs.Prelude.{◌≡◌, ◌↔◌, false, List, ℕ, ◌*◌, ◌≤◌, ◌<◌, length, Ok, Err}
 use Rattle.paged.specs.PageSize.{size_is_fit, PageSize}
 use Rattle.container_layout.specs.Layout.{bytes_up_to, directory_size, directory_pages, pages_used, file_length}
 use Rattle.container_writer.specs.Writing.{writing}
@@ -25,7 +24,7 @@ pub record Fits (p : ℕ) (sizes : List ℕ) (given : ℕ) : Type 0 where
 -- with so much room, the answer is this refusal
 abbrev pub Refused : ℕ → List ℕ → ℕ → ℕ → ℕ → ℕ → Type 0
 Refused p sizes given room number value =
-    writing p sizes given room ≡ refused (record { number = number; value = value })
+    writing p sizes given room ≡ Err (record { number = number; value = value })
 
 pub record RefusedExactly : Type 0 where
   pub size : (p : ℕ) (sizes : List ℕ) (given room : ℕ) → Refused p sizes given room 3 p ↔ (size_is_fit p ≡ false)
@@ -38,7 +37,7 @@ pub record RefusedExactly : Type 0 where
   pub no_room : (p : ℕ) (sizes : List ℕ) (given room n : ℕ) →
       Refused p sizes given room 10 n ↔ (Fits p sizes given × ((n ≡ file_length p sizes) × (room < n)))
   pub accepted : (p : ℕ) (sizes : List ℕ) (given room n : ℕ) →
-      (writing p sizes given room ≡ ok n) ↔ (Fits p sizes given × ((n ≡ file_length p sizes) × (n ≤ room)))
+      (writing p sizes given room ≡ Ok n) ↔ (Fits p sizes given × ((n ≡ file_length p sizes) × (n ≤ room)))
   -- pages_used passes 32 bits only where directory_size does
   pub used : (p : ℕ) (sizes : List ℕ) → PageSize p → directory_size p sizes ≤ 0xffffffff →
       pages_used p sizes ≤ 0xffffffff

@@ -13,6 +13,7 @@ ghost use Rattle.container_writer_statements.specs.Contents.{HeaderWords, FreeMa
 ghost use Rattle.container_writer_statements.specs.Exactly.{RefusedExactly};
 
 // Promises each statement of this crate, so that none can be dropped unnoticed.
+#[tactic(auto, using(crate::proofs::Statements::statements))]
 pub fn proved()
     ensures told { Told }
     ensures single_valued { SingleValued }

@@ -6,7 +6,7 @@ use Rattle.numbers.specs.Refusal as annotations
 use Rattle.numbers.specs.declared.refusal.Refusal as why_annotations
 use Rattle.annotation_writer.specs.Refusal as writer
 use Rattle.annotation_writer.specs.declared.refusal.Refusal as why_writer
-use Rattle.lines.specs.Promises as lines
+use Rattle.lines.specs.Refusal as lines
 use Rattle.lines.specs.declared.refusal.Refusal as why_lines
 use Rattle.container_layout.specs.Refusal as packer
 use Rattle.container_layout.specs.declared.refusal.Refusal as why_packer
@@ -26,7 +26,7 @@ pub record Apart : Type 0 where
   pub container_refusal : (why : why_container.Refusal) → NotZero (container.refusal_in why).number
   pub annotations_refusal : (why : why_annotations.Refusal) → NotZero (annotations.refusal_in why).number
   pub writer_refusal : (why : why_writer.Refusal) → NotZero (writer.refusal_in why).number
-  pub lines_refusal : (why : why_lines.Refusal) → NotZero (lines.refusal_in why).refusal.number
+  pub lines_refusal : (why : why_lines.Refusal) → NotZero (lines.refusal_in why).number
   pub packer_refusal : (why : why_packer.Refusal) → NotZero (packer.refusal_in why).number
   pub opcode : (a : BinaryAnnotation) → NotZero (triple_in a).opcode
   pub placed : (why : why_annotations.Refusal) → BelowNoRoom (annotations.refusal_in why).number

@@ -3,7 +3,8 @@
 
 ghost use Rattle.crossing_statements.specs.Statements.{Apart};
 
-// Promises it, so that it cannot be dropped unnoticed.
+/// Promises it, so that it cannot be dropped unnoticed.
+#[tactic(auto, using(crate::proofs::Statements::apart))]
 pub fn proved()
     ensures { Apart }
 {}

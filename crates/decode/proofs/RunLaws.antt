@@ -4,14 +4,14 @@ use mathlib.Core.List.{List, [], ◌∷◌}
 use Prim.Native.Nat.{ℕ, zero, suc, ◌+◌, ◌-◌, ◌*◌, ◌≤◌, ◌<◌}
 use native.Mathlib.Omega.{arith}
 use lib.ListN.{length}
-use Rattle.outcome.specs.Outcome.{Outcome, ok, refused}
+use Rattle.std.specs.Prelude.{Result, Ok, Err}
 use Rattle.numbers.specs.Refusal.{Stop}
 use Rattle.annotations.specs.Step.{PlacedTriple, Stepped, annotation, end, step_at}
 use Rattle.decode.specs.Decode.{Run, on_step, run_from, rest, decode_all}
 use Rattle.annotations.proofs.MoveLaws.{StepMoves, found, ended, stopped, step_moves, advanced}
 
 -- ---- enough fuel is as good as more
-on_same : {s : List ℕ} {at : ℕ} {x : Outcome Stop Stepped} {k l : ℕ → Run} → StepMoves s at x → ((p : ℕ) → at + 2 ≤ p → p ≤ length s → k p ≡ l p) → on_step at x k ≡ on_step at x l
+on_same : {s : List ℕ} {at : ℕ} {x : Result Stepped Stop} {k l : ℕ → Run} → StepMoves s at x → ((p : ℕ) → at + 2 ≤ p → p ≤ length s → k p ≡ l p) → on_step at x k ≡ on_step at x l
 unfolding on_step
 on_same (found {x} l m) h = rw (h x.next l m)
 on_same ended h = refl
@@ -25,22 +25,22 @@ enough s (suc m) (suc n) at h k =
     on_same (step_moves s at) (λ p l l'. enough s m n p (omega arith) (omega arith))
 
 module _ (s : List ℕ) (at : ℕ) where
-  pub rest_on : {x : PlacedTriple} → step_at s at ≡ ok (annotation x) → rest s at ≡ record { found = x ∷ (rest s x.next).found; at = (rest s x.next).at; last = (rest s x.next).last }
+  pub rest_on : {x : PlacedTriple} → step_at s at ≡ Ok (annotation x) → rest s at ≡ record { found = x ∷ (rest s x.next).found; at = (rest s x.next).at; last = (rest s x.next).last }
   unfolding rest run_from on_step
   rest_on {x} e =
       let m = advanced s at e in
       rw e (ap (λ (r : Run). record { found = x ∷ r.found; at = r.at; last = r.last }) (enough s (length s - at) (suc (length s - x.next)) x.next (omega arith) (omega arith)))
 
-  pub rest_end : {p : ℕ} → step_at s at ≡ ok (end p) → rest s at ≡ record { found = []; at = at; last = ok p }
+  pub rest_end : {p : ℕ} → step_at s at ≡ Ok (end p) → rest s at ≡ record { found = []; at = at; last = Ok p }
   unfolding rest run_from on_step
   rest_end e = rw e
 
-  pub rest_refused : {why : Stop} → step_at s at ≡ refused why → rest s at ≡ record { found = []; at = at; last = refused why }
+  pub rest_refused : {why : Stop} → step_at s at ≡ Err why → rest s at ≡ record { found = []; at = at; last = Err why }
   unfolding rest run_from on_step
   rest_refused e = rw e
 
 -- ---- at most half as many annotations as bytes
-half_on : {s : List ℕ} {at : ℕ} {x : Outcome Stop Stepped} (k : ℕ → Run) → StepMoves s at x → ((p : ℕ) → 2 * length (k p).found ≤ length s - p) → 2 * length (on_step at x k).found ≤ length s - at
+half_on : {s : List ℕ} {at : ℕ} {x : Result Stepped Stop} (k : ℕ → Run) → StepMoves s at x → ((p : ℕ) → 2 * length (k p).found ≤ length s - p) → 2 * length (on_step at x k).found ≤ length s - at
 unfolding on_step
 half_on k (found {x} l m) h = let g = h x.next in omega arith
 half_on k ended h = omega arith

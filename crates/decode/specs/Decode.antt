@@ -1,7 +1,7 @@
 -- Document 01, "Decoding all stops at the end, or at the first refusal, which it returns with its place".
-use Rattle.std.specs.Prelude.{ℕ, zero, suc, ◌-◌, ◌*◌, Bool, List, [], ◌∷◌, ◌++◌, length, leb, ℤ, pos}
+use Rattle.std.specs.Prelude.{ℕ, zero, suc, ◌-◌, ◌*◌, Bool, List, [], ◌∷◌, ◌++◌, length, leb, ℤ, pos, Result, Ok, Err}
 use Rattle.std.proofs.Math.Option.{Option, none, some}
-use Rattle.outcome.specs.Outcome.{Outcome, ok, refused, ◌>>=◌, ◌>>◌, require, raise}
+use Rattle.outcome.specs.Outcome.{◌>>=◌, ◌>>◌, require, raise}
 use Rattle.outcome.specs.Refusal as paper
 use Rattle.numbers.specs.Refusal.{Stop}
 use Rattle.numbers.specs.Number.{flag}
@@ -12,18 +12,18 @@ use Rattle.annotations.specs.declared.annotation.Triple.{Triple}
 pub record Run : Type 0 where
   pub found : List PlacedTriple
   pub at : ℕ
-  pub last : Outcome Stop ℕ
+  pub last : Result ℕ Stop
 
 -- a run that begins with a step's answer; after an annotation it goes on
-unfoldable pub on_step : ℕ → Outcome Stop Stepped → (ℕ → Run) → Run
-on_step at (ok (annotation x)) next =
+unfoldable pub on_step : ℕ → Result Stepped Stop → (ℕ → Run) → Run
+on_step at (Ok (annotation x)) next =
     let r : Run = next x.next in record { found = x ∷ r.found; at = r.at; last = r.last }
-on_step at (ok (end p)) next = record { found = []; at = at; last = ok p }
-on_step at (refused why) next = record { found = []; at = at; last = refused why }
+on_step at (Ok (end p)) next = record { found = []; at = at; last = Ok p }
+on_step at (Err why) next = record { found = []; at = at; last = Err why }
 
 -- at most `fuel` steps from a place on
 unfoldable pub run_from : List ℕ → ℕ → ℕ → Run
-run_from s zero at = record { found = []; at = at; last = ok at }
+run_from s zero at = record { found = []; at = at; last = Ok at }
 run_from s (suc fuel) at = on_step at (step_at s at) (run_from s fuel)
 
 -- all steps from a place on. (An annotation takes at least one byte, so the fuel is enough; `Agreement` of
@@ -54,8 +54,8 @@ abbrev pub decoded_entries : List ℕ → List ℤ
 decoded_entries s = entries (decode_all s).found
 
 -- how many annotations, or the first refusal with its place
-abbrev pub counted : Run → Outcome Stop ℕ
-counted r = r.last >> ok (length r.found)
+abbrev pub counted : Run → Result ℕ Stop
+counted r = r.last >> Ok (length r.found)
 
 -- a refusal of decoding all: 7, 8 and 9 with their place; 10, with the entries needed, has none
 pub record DecodeStop : Type 0 where
@@ -69,8 +69,8 @@ abbrev pub no_room_for : ℕ → DecodeStop
 no_room_for needed = record { refusal = record { number = 10; value = needed }; place = none }
 
 -- decoding all into a store of `room` entries: how many annotations. 10 comes last
-unfoldable pub decoding : List ℕ → ℕ → Outcome DecodeStop ℕ
+unfoldable pub decoding : List ℕ → ℕ → Result ℕ DecodeStop
 decoding s room = do
   n ← raise with_place (counted (decode_all s))
   require (leb (entries_each * n) room) (no_room_for (entries_each * n))
-  ok n
+  Ok n

@@ -1,3 +1,4 @@
 pub mod Decode
+pub mod Refusal
 pub mod Promises
 pub mod Inner

@@ -1,21 +1,17 @@
 -- What the stages of step 8 promise their callers.
-use Rattle.std.specs.Prelude.{◌≡◌, ℕ, ◌+◌, ◌^◌, ◌≤◌}
-use Rattle.outcome.specs.Outcome.{Outcome, ok, refused, ◌>>=◌}
+use Rattle.std.specs.Prelude.{◌≡◌, ℕ, ◌+◌, ◌^◌, ◌≤◌, Option, Result, Ok, IfOk}
+use Rattle.outcome.specs.Outcome.{◌>>=◌}
 use Rattle.outcome.specs.Refusal as paper
 use Rattle.parse_buffer.specs.Bytes.{File}
-use Rattle.paged.specs.Refusal.{refusal_in}
 use Rattle.paged.specs.PageSize.{PageSize, need}
 use Rattle.paged.specs.Pages.{entry_of}
 use Rattle.paged.specs.declared.refusal.Refusal.{Refusal}
-use Rattle.paged.specs.declared.refusal.Refusal.TheVariants.{ShortData}
 use Rattle.runs.specs.Inner.{Lying}
 use Rattle.stream.specs.Stream.{own_pages}
 use Rattle.stream.specs.declared.Found.{Found}
 use Rattle.extent.specs.Extent.{Asked, asked, readable, extent_of}
-use Rattle.extent.specs.declared.limit.Limit.{Limit}
+use Rattle.paged.specs.Refusal.{told}
 use Rattle.extent.specs.declared.Extent.{Extent}
-use Rattle.extent.specs.declared.Measured.{Measured}
-use Rattle.extent.specs.declared.Measured.TheVariants as measured
 
 -- ---- what holds of an extent: its page size passes, it has as many pages as its bytes take, and their entries are
 -- among the first 2^32 of their list (so there are no more than that; it stands here for those who only need this)
@@ -34,30 +30,22 @@ pub record Held (x : Found) : Type 0 where
   pub size : PageSize x.header.pagesize
   pub small : x.first + own_pages x ≤ 2 ^ 32
 
--- ---- what an answer says on paper, and why it refused (of an acceptance that is never asked)
-unfoldable pub measured_in : Measured → Outcome paper.Refusal Extent
-measured_in (measured.Extent x) = ok x
-measured_in (measured.Refused why) = refused (refusal_in why)
-
-abbrev pub why_measured : Measured → Refusal
-why_measured (measured.Refused why) = why
-why_measured (measured.Extent x) = ShortData
-
-unfoldable pub extents : Outcome paper.Refusal Asked → Outcome paper.Refusal Extent
+-- ---- what was asked for, by its pages
+unfoldable pub extents : Result Asked paper.Refusal → Result Extent paper.Refusal
 extents o = do
   x ← o
-  ok (extent_of x)
+  Ok (extent_of x)
 
--- ---- of what was measured: it is an extent, and its entries lie in the file
-pub record Sound (f : File) (len : ℕ) (r : Measured) : Type 0 where
-  pub extends : (x : Extent) → measured_in r ≡ ok x → Extends x
-  pub lie : (x : Extent) → measured_in r ≡ ok x → EntriesLie f len x
+-- ---- what was measured is an extent, and its entries lie in the file
+pub record Sound (f : File) (len : ℕ) (r : Result Extent Refusal) : Type 0 where
+  pub extends : IfOk r Extends
+  pub lie : IfOk r (EntriesLie f len)
 
 -- ---- `measure` and `readable`
-pub record Measuring (f : File) (len k : ℕ) (limit : Limit) (r : Measured) : Type 0 where
-  pub answer : measured_in r ≡ extents (asked f len k limit)
+pub record Measuring (f : File) (len k : ℕ) (limit : Option ℕ) (r : Result Extent Refusal) : Type 0 where
+  pub answer : told r ≡ extents (asked f len k limit)
   pub sound : Sound f len r
 
-pub record Reading (f : File) (len k : ℕ) (limit : Limit) (r : Measured) : Type 0 where
-  pub answer : measured_in r ≡ extents (readable f len k limit)
+pub record Reading (f : File) (len k : ℕ) (limit : Option ℕ) (r : Result Extent Refusal) : Type 0 where
+  pub answer : told r ≡ extents (readable f len k limit)
   pub sound : Sound f len r

@@ -1,23 +1,19 @@
 // Step 8: how many bytes of a stream are asked for, and the pages that hold them.
 //
-// limit.rt: the limit. This file: `measure` finds a stream and applies the limit; `readable` also checks that the bytes
-// lie in the file.
+// `measure` finds a stream and applies the limit. `readable` also checks that the bytes lie in the file.
 #![tactic(auto)]
-
-mod limit;
 
 ghost use Rattle.std.specs.Prelude.{◌≡◌, length};
 ghost use Rattle.parse_buffer.specs.Bytes.{byte_at};
-ghost use Rattle.extent.specs.Extent.{asked_of, extent_of};
-ghost use Rattle.extent.specs.Inner.{why_measured, Extends, Held, Measuring, Reading};
+ghost use Rattle.extent.specs.Extent.{length_of, asked_of, extent_of};
+ghost use Rattle.extent.specs.Inner.{Extends, Held, Measuring, Reading};
 
-pub use limit::Limit;
 use paged::{Pages, Refusal, StreamNumber, pages_needed_to_store};
-use runs::{Checked, lies_in_file};
-use stream::{Found, Sought, find};
+use runs::lies_in_file;
+use stream::{Found, find};
 
-// The first `bytes` bytes of a paged object. They take `pages` pages, whose numbers are the first of this list.
-#[derive(Clone, Copy)]
+/// The first `bytes` bytes of a paged object. They take `pages` pages, whose numbers are the first of this list.
+#[derive(Clone, Copy, Debug, PartialEq, Eq)]
 pub struct Extent {
     pub pagesize: usize,
     pub list: Pages,
@@ -25,65 +21,48 @@ pub struct Extent {
     pub pages: usize,
 }
 
-#[derive(Clone, Copy)]
-pub enum Measured {
-    Extent(Extent),
-    Refused(Refusal),
-}
-
-impl Measured {
-    // Why the stream was refused.
-    pub fn why(self) -> Refusal
-        ensures { result ≡ why_measured self }
-    {
-        match self {
-            Measured::Refused(why) => why,
-            Measured::Extent(_) => Refusal::ShortData,
-        }
-    }
-}
-
-// Steps 1 to 8, then 6 for the bytes that are asked for.
-pub fn readable(file: &[u8], stream: StreamNumber, limit: Limit) -> Measured
+/// Steps 1 to 8, then 6 for the bytes that are asked for.
+#[tactic(auto, using(crate::proofs::ExtentLaws::reading_cases))]
+pub fn readable(file: &[u8], stream: StreamNumber, limit: Option<usize>) -> Result<Extent, Refusal>
     ensures { Reading (byte_at file.now) (length file.now) stream.0 limit result }
 {
-    let measured = measure(file, stream, limit);
-    let Measured::Extent(x) = measured else {
-        return measured;
-    };
-    let list = x.list;
-    let checked = lies_in_file(file, x.pagesize, list, x.bytes, x.pages);
-    let Checked::Fine = checked else {
-        return Measured::Refused(checked.why());
-    };
-    measured
+    let x = measure(file, stream, limit)?;
+    lies_in_file(file, x.pagesize, x.list, x.bytes, x.pages)?;
+    Ok(x)
 }
 
-// Steps 1 to 8.
-pub fn measure(file: &[u8], stream: StreamNumber, limit: Limit) -> Measured
+/// Steps 1 to 8.
+#[tactic(auto, using(crate::proofs::ExtentLaws::measure_refused))]
+pub fn measure(file: &[u8], stream: StreamNumber, limit: Option<usize>) -> Result<Extent, Refusal>
     ensures { Measuring (byte_at file.now) (length file.now) stream.0 limit result }
 {
-    let found = find(file, stream);
-    let Sought::Found(x) = found else {
-        return Measured::Refused(found.why());
-    };
-    Measured::Extent(first_bytes(x, limit))
+    let x = find(file, stream)?;
+    Ok(first_bytes(x, limit))
 }
 
-// The bytes of a stream that was found, up to the limit.
-pub fn first_bytes(x: Found, limit: Limit) -> Extent
+/// The bytes of a stream that was found, up to the limit.
+#[tactic(auto, using(crate::proofs::ExtentLaws::first_cases))]
+pub fn first_bytes(x: Found, limit: Option<usize>) -> Extent
     requires { Held x }
     ensures value { result ≡ extent_of (asked_of limit x) }
     ensures extends { Extends result }
 {
-    let h = x.header;
-    let pagesize = h.pagesize as usize;
-    let bytes = limit.length(x.size as usize);
-    let pages = pages_needed_to_store(pagesize, bytes);
+    let pagesize = x.header.pagesize as usize;
+    let bytes = length_of(x.size as usize, limit);
     Extent {
         pagesize,
         list: Pages::Stream(x.first),
         bytes,
-        pages,
+        pages: pages_needed_to_store(pagesize, bytes),
+    }
+}
+
+// The length is the size, or the limit where that is smaller.
+fn length_of(size: usize, limit: Option<usize>) -> usize
+    ensures { result ≡ length_of limit size }
+{
+    match limit {
+        Some(n) => size.min(n),
+        None => size,
     }
 }

@@ -1,5 +1,6 @@
 -- Demand 3 at the boundary, as `Isolation` proves it of the operations: a promise about g is one about f, and no second
 -- answer satisfies it.
+use Rattle.std.specs.Prelude.{Option}
 use mathlib.Core.Path.{sym, ◌∙◌}
 use mathlib.Core.List.{List}
 use Prim.Native.Nat.{ℕ, min}
@@ -8,7 +9,6 @@ use Rattle.outcome.proofs.OutcomeLaws.{written_same}
 use Rattle.parse_buffer.specs.Bytes.{File}
 use Rattle.slices.specs.declared.SourceSlice.{SourceSlice}
 use Rattle.msf.specs.Extraction.{bytes_in}
-use Rattle.extent.specs.declared.limit.Limit.{Limit}
 use Rattle.container_crossing.specs.Promises.{Opens, Counts, Maps, Extracts}
 use Rattle.container_crossing.proofs.Statements.{single_valued}
 use Rattle.isolation.specs.Listed.{ListedOpen, ListedCount, ListedMap, ListedBytes, Agree}
@@ -26,7 +26,7 @@ module _ (f g : File) (len : ℕ) where
   counts_as : Agree (ListedCount f len) f g → (r v : ℕ) → Counts g len r v → Counts f len r v
   counts_as agree r v p = record { answer = rw (stream_count_same f g len agree) p.answer }
 
-  maps_as : (k : ℕ) (limit : Limit) → Agree (ListedMap f len k) f g → (offsets sizes : List ℕ) (r v u : ℕ) (o t : List ℕ) → Maps g len k limit offsets sizes r v u o t → Maps f len k limit offsets sizes r v u o t
+  maps_as : (k : ℕ) (limit : Option ℕ) → Agree (ListedMap f len k) f g → (offsets sizes : List ℕ) (r v u : ℕ) (o t : List ℕ) → Maps g len k limit offsets sizes r v u o t → Maps f len k limit offsets sizes r v u o t
   maps_as k limit agree offsets sizes r v u o t p =
       let room : ℕ = min (length offsets) (length sizes) in
       let same = mapped_same f g len k limit agree room in
@@ -36,7 +36,7 @@ module _ (f g : File) (len : ℕ) where
         sizes_after = p.sizes_after ∙ sym (slices_same f g len k limit agree (λ (s : SourceSlice). s.size) room sizes);
       }
 
-  extracts_as : (k : ℕ) (limit : Limit) → Agree (ListedBytes f len k limit) f g → (out : List ℕ) (r v : ℕ) (o : List ℕ) → Extracts g len k limit out r v o → Extracts f len k limit out r v o
+  extracts_as : (k : ℕ) (limit : Option ℕ) → Agree (ListedBytes f len k limit) f g → (out : List ℕ) (r v : ℕ) (o : List ℕ) → Extracts g len k limit out r v o → Extracts f len k limit out r v o
   extracts_as k limit agree out r v o p =
       let same = extraction_same f g len k limit agree (length out) in
       record {

@@ -4,7 +4,7 @@ use mathlib.Core.Path.{◌≡◌, sym, ◌∙◌}
 use mathlib.Core.Bool.{true}
 use Prim.Native.Nat.{ℕ, ◌+◌, ◌*◌, min, ◌≤◌, ◌<◌}
 use native.Mathlib.Omega.{arith}
-use Rattle.outcome.specs.Outcome.{ok}
+use Rattle.std.specs.Prelude.{Ok, Option}
 use Rattle.outcome.proofs.OutcomeLaws.{ok_is}
 use Rattle.parse_buffer.specs.Bytes.{File}
 use Rattle.paged.specs.Pages.{first_entry, location, directory_page}
@@ -16,7 +16,6 @@ use Rattle.header.proofs.OpenLaws.{is_located}
 use Rattle.directory.specs.Directory.{reached}
 use Rattle.stream.specs.Stream.{own_page, own_pages}
 use Rattle.stream.proofs.FindLaws.{found_at}
-use Rattle.extent.specs.declared.limit.Limit.{Limit}
 use Rattle.isolation.specs.Listed.{ListedOpen, ListedCount, ListedMap, ListedBytes, Agree}
 use Rattle.isolation.specs.NamedExactly.{InPages}
 use Rattle.isolation.specs.Corollaries.{Alike, DifferOnlyAt, OffTheLists, Elsewhere, Corollaries}
@@ -27,7 +26,7 @@ use Rattle.extent.proofs.ExtentLaws.{asked_at, readable_at}
 use Rattle.isolation.proofs.Stages.{Stage, stage}
 use Rattle.isolation.proofs.Isolation.{isolation}
 
-pub alike : (f g : File) (len k : ℕ) (limit : Limit) → Agree (ListedBytes f len k limit) f g → Alike f g len k limit
+pub alike : (f g : File) (len k : ℕ) (limit : Option ℕ) → Agree (ListedBytes f len k limit) f g → Alike f g len k limit
 alike f g len k limit agree =
     let I = isolation f g len in
     record {
@@ -39,14 +38,14 @@ alike f g len k limit agree =
     }
 
 -- files that differ only where nothing is listed agree on the list
-off_list : (f g : File) (len k : ℕ) (limit : Limit) (Place : ℕ → Type 0) → ((i : ℕ) → ListedBytes f len k limit i → Place i → ⊥) → DifferOnlyAt Place f g → Alike f g len k limit
+off_list : (f g : File) (len k : ℕ) (limit : Option ℕ) (Place : ℕ → Type 0) → ((i : ℕ) → ListedBytes f len k limit i → Place i → ⊥) → DifferOnlyAt Place f g → Alike f g len k limit
 off_list f g len k limit Place off differ = alike f g len k limit (λ i l. differ i (off i l))
 
 -- ---- where a byte stands that is listed for mapping
 data Where (f : File) (len i : ℕ) : Type 0 where
   opening : ListedOpen f len i → Where f len i
-  list : {h : Header} → located f len ≡ ok h → InPages h.pagesize (location f) (location_pages h) i → Where f len i
-  directory : {h : Header} → reached f len ≡ ok h → InPages h.pagesize (directory_page f h.pagesize) (directory_pages h) i → Where f len i
+  list : {h : Header} → located f len ≡ Ok h → InPages h.pagesize (location f) (location_pages h) i → Where f len i
+  directory : {h : Header} → reached f len ≡ Ok h → InPages h.pagesize (directory_page f h.pagesize) (directory_pages h) i → Where f len i
 
 standing : (f : File) (len i : ℕ) → Stage f len i → Where f len i
 standing f len i (Stage.opening l) = Where.opening l
@@ -63,10 +62,10 @@ standing f len i (Stage.word {w = j} {h} d l w) =
 
 -- ---- page 0: no page that passed its check is page 0. (No header need pass: then opening alone is listed.)
 abbrev InPageZero : File → ℕ → ℕ → Type 0
-InPageZero f len i = (h : Header) → headed f len ≡ ok h → i < h.pagesize
+InPageZero f len i = (h : Header) → headed f len ≡ Ok h → i < h.pagesize
 
 module _ (f : File) (len k i : ℕ) (zero : InPageZero f len i) where
-  located_not_zero : {h : Header} → located f len ≡ ok h → h.pagesize ≤ i → ⊥
+  located_not_zero : {h : Header} → located f len ≡ Ok h → h.pagesize ≤ i → ⊥
   located_not_zero o past = omega (arith, zero _ (is_located f len o).headed)
 
   only_opening : Where f len i → ListedOpen f len i
@@ -77,7 +76,7 @@ module _ (f : File) (len k i : ℕ) (zero : InPageZero f len i) where
       let at = reached_at f len d in
       absurd (located_not_zero at.located (past_page_zero h.used h.pagesize (directory_page f h.pagesize) (directory_pages h) at.checked i x))
 
-  in_page_zero : (limit : Limit) → ListedBytes f len k limit i → ListedOpen f len i
+  in_page_zero : (limit : Option ℕ) → ListedBytes f len k limit i → ListedOpen f len i
   in_page_zero limit (ListedBytes.mapping l) = only_opening (standing f len i (stage f len k i l))
   in_page_zero limit (ListedBytes.bytes {x} r n) =
       let p = (readable_at f len k limit r).asked in
@@ -86,11 +85,11 @@ module _ (f : File) (len k i : ℕ) (zero : InPageZero f len i) where
       (past_page_zero x.found.header.used x.found.header.pagesize (own_page f x.found) (own_pages x.found) at.checked i (named_in_pages f len k limit p i n)))
 
 -- the smallest page has 256 bytes
-pub first_256 : (f : File) (len k : ℕ) (limit : Limit) (i : ℕ) → i < 256 → ListedBytes f len k limit i → ListedOpen f len i
+pub first_256 : (f : File) (len k : ℕ) (limit : Option ℕ) (i : ℕ) → i < 256 → ListedBytes f len k limit i → ListedOpen f len i
 first_256 f len k limit i m = in_page_zero f len k i (λ h q. let s = (headed_size f len q).least in omega arith) limit
 
 -- ---- a byte elsewhere
-module _ (f : File) (len k : ℕ) {h : Header} (p : headed f len ≡ ok h) (i : ℕ) where
+module _ (f : File) (len k : ℕ) {h : Header} (p : headed f len ≡ Ok h) (i : ℕ) where
   past_opening : first_entry + 4 * min (location_pages h) entries_in_block ≤ i → ListedOpen f len i → ⊥
   past_opening l (ListedOpen.start m) = omega arith
   past_opening l (ListedOpen.fields _ m) = omega arith
@@ -107,7 +106,7 @@ module _ (f : File) (len k : ℕ) {h : Header} (p : headed f len ≡ ok h) (i : 
   off_the_lists : OffTheLists f len h i → ListedMap f len k i → ⊥
   off_the_lists off l = not_standing off (standing f len i (stage f len k i l))
 
-  elsewhere : (limit : Limit) → Elsewhere f len k h i → ListedBytes f len k limit i → ⊥
+  elsewhere : (limit : Option ℕ) → Elsewhere f len k h i → ListedBytes f len k limit i → ⊥
   elsewhere limit e (ListedBytes.mapping l) = off_the_lists e.off_the_lists l
   elsewhere limit e (ListedBytes.bytes r n) =
       let q = (readable_at f len k limit r).asked in e.no_own (asked_at f len k limit q).found (named_in_pages f len k limit q i n)
@@ -125,7 +124,7 @@ no_reserved f len i l m (ListedOpen.fields _ n) = omega arith
 no_reserved f len i l m (ListedOpen.small _ _ n) = omega arith
 no_reserved f len i l m (ListedOpen.locations _ _ w) = omega (arith, w.0)
 
-pub corollaries : (f g : File) (len k : ℕ) (limit : Limit) → Corollaries f g len k limit
+pub corollaries : (f g : File) (len k : ℕ) (limit : Option ℕ) → Corollaries f g len k limit
 corollaries f g len k limit =
     record {
       unlisted = λ at n. off_list f g len k limit (λ i. i ≡ at) (λ i l e. n (rw e at l));

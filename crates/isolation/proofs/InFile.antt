@@ -1,5 +1,6 @@
 -- A word of the location list or of the directory is listed only if that lies in the file, and a stream's bytes only if
 -- they do; the location entries are in the header block, which a file that passes step 1 has.
+use Rattle.std.specs.Prelude.{Option}
 use mathlib.Core.Logic.{◌⊎◌, inl, inr}
 use Prim.Native.Nat.{ℕ, ◌*◌, ◌<◌}
 use native.Mathlib.Omega.{arith}
@@ -9,7 +10,6 @@ use Rattle.header.specs.Header.{directory_pages}
 use Rattle.header.proofs.HeaderLaws.{headed_long}
 use Rattle.header.proofs.OpenLaws.{is_located}
 use Rattle.stream.specs.Stream.{own_page}
-use Rattle.extent.specs.declared.limit.Limit.{Limit}
 use Rattle.paged.proofs.LiesLaws.{lies_byte, lies_word}
 use Rattle.extent.proofs.ExtentLaws.{readable_at}
 use Rattle.container_statements.proofs.Statements.{large}
@@ -39,7 +39,7 @@ module _ (f : File) (len i : ℕ) where
       let in_file = lies_word len h.pagesize (directory_page f h.pagesize) h.directory (omega arith) at.held at.size j (omega arith) in
       inl (omega (arith, w.1))
 
-pub in_file : (f : File) (len k : ℕ) (limit : Limit) → InFile f len k limit
+pub in_file : (f : File) (len k : ℕ) (limit : Option ℕ) → InFile f len k limit
 in_file f len k limit = record { is = is }
   where
     is : (i : ℕ) → ListedBytes f len k limit i → (i < len) ⊎ (i < 48)

@@ -5,7 +5,7 @@ use mathlib.Core.Bool.{true}
 use Prim.Native.Nat.{ℕ, zero, suc, ◌*◌, ◌/◌, ◌≤◌, ◌<◌}
 use native.Mathlib.Omega.{arith}
 use native.Mathlib.Nat.{mod-lt, mul-le-mul}
-use Rattle.outcome.specs.Outcome.{ok}
+use Rattle.std.specs.Prelude.{Ok}
 use Rattle.outcome.proofs.EachLaws.{each_passed}
 use Rattle.paged.specs.PageSize.{PageSize}
 use Rattle.paged.specs.Pages.{through}
@@ -31,7 +31,7 @@ unfolding page_fits
 fits_positive used zero e = absurd (let z : ◌≡◌ {A = ℕ} 0 1 = cc in omega arith)
 fits_positive used (suc n) e = omega arith
 
-pub past_page_zero : (used p : ℕ) (page : ℕ → ℕ) (n : ℕ) → check_pages used page n ≡ ok tt → (i : ℕ) → InPages p page n i → p ≤ i
+pub past_page_zero : (used p : ℕ) (page : ℕ → ℕ) (n : ℕ) → check_pages used page n ≡ Ok tt → (i : ℕ) → InPages p page n i → p ≤ i
 past_page_zero used p page n e i x =
     let q = fits_positive used (page x.index) (each_passed _ _ n e x.index x.below) in
     let m : 1 * p ≤ page x.index * p = mul-le-mul q (omega arith) in

@@ -8,7 +8,8 @@ use native.Mathlib.Omega.{arith}
 use borrow.Author.Tests.{ltb-true, not-true}
 use lib.Count
 use lib.Dec.{eqb}
-use Rattle.outcome.specs.Outcome.{ok, ◌>>=◌, ◌>>◌, require}
+use Rattle.std.specs.Prelude.{Ok}
+use Rattle.outcome.specs.Outcome.{and_next, and_then, require}
 use Rattle.outcome.proofs.OutcomeLaws.{below_or, came, came_by, ok_is, passed}
 use Rattle.parse_buffer.specs.Bytes.{File, word}
 use Rattle.paged.specs.PageSize.{size_is_fit, need}
@@ -31,7 +32,7 @@ header_f n = record { pagesize = 256; used = 24; directory = n }
 -- F, but for a directory of n bytes
 pub record Like (g : File) (n : ℕ) : Type 0 where
   pub big : stands_at g 0 big_magic ≡ true
-  pub headed : headed g 6144 ≡ ok (header_f n)
+  pub headed : headed g 6144 ≡ Ok (header_f n)
   pub list : location g 0 ≡ 3
   pub directory : directory_page g 256 0 ≡ 4
   pub count : directory_word g 256 0 ≡ 3
@@ -42,7 +43,7 @@ pub record Like (g : File) (n : ℕ) : Type 0 where
   pub entries_2 : (directory_word g 256 6 ≡ 10) × (directory_word g 256 7 ≡ 11) × (directory_word g 256 8 ≡ 5)
 
 pub like_f : Like F 36
-unfolding F file_f ◌>>=◌ ◌>>◌ require word size_is_fit location directory_page directory_word stands_at sized headed Count.ones Count.ones_in
+unfolding F file_f and_then and_next require word size_is_fit location directory_page directory_word stands_at sized headed Count.ones Count.ones_in
 like_f =
     record {
       big = refl;
@@ -58,12 +59,12 @@ like_f =
     }
 
 pub like_short : (n : ℕ) → Like (changed F 44 n) n
-unfolding F file_f ◌>>=◌ ◌>>◌ require word size_is_fit location directory_page directory_word stands_at sized headed Count.ones Count.ones_in
+unfolding F file_f and_then and_next require word size_is_fit location directory_page directory_word stands_at sized headed Count.ones Count.ones_in
 like_short n =
     let word : n + 0 + 0 + 0 ≡ n = omega arith in
     record {
       big = refl;
-      headed = ap (λ (d : ℕ). ok (header_f d)) word;
+      headed = ap (λ (d : ℕ). Ok (header_f d)) word;
       list = refl;
       directory = refl;
       count = refl;
@@ -76,7 +77,7 @@ like_short n =
 
 module _ {g : File} {n : ℕ} (like : Like g n) (small : n ≤ 36) where
   -- ---- the header, and one page of each list
-  pub header_is : {h : Header} → located g 6144 ≡ ok h → h ≡ header_f n
+  pub header_is : {h : Header} → located g 6144 ≡ Ok h → h ≡ header_f n
   header_is o = ok_is (sym (is_located g 6144 o).headed ∙ like.headed)
 
   pub one_page : directory_pages (header_f n) ≤ 1
@@ -103,7 +104,7 @@ module _ {g : File} {n : ℕ} (like : Like g n) (small : n ≤ 36) where
     pub present : eqb (size_at g 256 k) absent ≡ false
     pub is : x ≡ record { header = header_f n; size = size_at g 256 k; first = first_of g 256 3 k }
 
-  pub skipped_is : (k : ℕ) {x : Found} → skipped_to g 6144 k ≡ ok x → Is k x
+  pub skipped_is : (k : ℕ) {x : Found} → skipped_to g 6144 k ≡ Ok x → Is k x
   unfolding skipped_to stream.present
   skipped_is k {x} e =
       came_by _ _ e λ y s e₁.
@@ -127,15 +128,15 @@ module _ {g : File} {n : ℕ} (like : Like g n) (small : n ≤ 36) where
   abbrev pub stream_in : ℕ → ℕ → Found
   stream_in size first = record { header = header_f n; size = size; first = first }
 
-  pub is_0 : {x : Found} → skipped_to g 6144 0 ≡ ok x → x ≡ stream_in 300 4
+  pub is_0 : {x : Found} → skipped_to g 6144 0 ≡ Ok x → x ≡ stream_in 300 4
   unfolding pages_before
   is_0 e = rw like.size_0 at (skipped_is 0 e).is
 
-  pub is_2 : {x : Found} → skipped_to g 6144 2 ≡ ok x → x ≡ stream_in 600 6
+  pub is_2 : {x : Found} → skipped_to g 6144 2 ≡ Ok x → x ≡ stream_in 600 6
   unfolding pages_before pages_of need
   is_2 e = simp (like.size_0, like.size_1, like.size_2) at (skipped_is 2 e).is
 
-  pub not_1 : {x : Found} → skipped_to g 6144 1 ≡ ok x → ⊥
+  pub not_1 : {x : Found} → skipped_to g 6144 1 ≡ Ok x → ⊥
   not_1 e = let p = rw like.size_1 at (skipped_is 1 e).present in let z : ◌≡◌ {A = ℕ} 0 1 = cc in omega arith
 
   pub place_0 : (j : ℕ) → j < 300 → through 256 (own_page g (stream_in 300 4)) j ≡ 5120 + j

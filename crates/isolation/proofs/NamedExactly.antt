@@ -6,7 +6,7 @@ use mathlib.Core.List.{List, [], ◌∷◌}
 use Prim.Native.Nat.{ℕ, ◌+◌, ◌-◌, ◌≤◌, ◌<◌}
 use native.Mathlib.Omega.{arith}
 use borrow.Author.Tests.{lt-ltb, le-ltb}
-use Rattle.outcome.specs.Outcome.{ok}
+use Rattle.std.specs.Prelude.{Ok, Option}
 use Rattle.outcome.proofs.OutcomeLaws.{below_or}
 use Rattle.parse_buffer.specs.Bytes.{File}
 use Rattle.paged.specs.PageSize.{need}
@@ -17,7 +17,6 @@ use Rattle.slices.specs.Slices.{total, place_of}
 use Rattle.slices.specs.declared.SourceSlice.{SourceSlice}
 use Rattle.extent.specs.Extent.{Asked, asked}
 use Rattle.mapping.specs.Mapping.{slices_in}
-use Rattle.extent.specs.declared.limit.Limit.{Limit}
 use Rattle.container_statements.proofs.Statements.{large, held, is_total, is_place}
 use Rattle.isolation.specs.Listed.{Named}
 use Rattle.isolation.specs.NamedExactly.{StreamByte, InPages, NamedExactly}
@@ -58,7 +57,7 @@ byte_of (s ∷ rest) i (Named.there n) =
     }
 
 -- ---- a stream's slices
-module _ (f : File) (len k : ℕ) (limit : Limit) {x : Asked} (p : asked f len k limit ≡ ok x) where
+module _ (f : File) (len k : ℕ) (limit : Option ℕ) {x : Asked} (p : asked f len k limit ≡ Ok x) where
   pub is_named : (j : ℕ) → j < x.length → Named (slices_in f x) (through x.found.header.pagesize (own_page f x.found) j)
   is_named j l =
       rw (← is_place f len k limit p j l) (named (slices_in f x) j (rw (is_total f len k limit p) l))
@@ -82,7 +81,7 @@ module _ (f : File) (len k : ℕ) (limit : Limit) {x : Asked} (p : asked f len k
       let m = few in
       rw b.at (byte_in_pages x.found.header.pagesize (own_page f x.found) (own_pages x.found) pos b.index (omega arith))
 
-pub named_exactly : (f : File) (len k : ℕ) (limit : Limit) → NamedExactly f len k limit
+pub named_exactly : (f : File) (len k : ℕ) (limit : Option ℕ) → NamedExactly f len k limit
 named_exactly f len k limit =
     record {
       is = λ p i. (stream_byte_lem f len k limit p i, λ b. rw b.at (is_named f len k limit p b.index b.below));

@@ -9,7 +9,7 @@ use native.Mathlib.Omega.{arith}
 use native.Mathlib.Nat.{le_refl}
 use borrow.Author.Tests.{leb-true}
 use lib.Dec.{leb}
-use Rattle.outcome.specs.Outcome.{ok}
+use Rattle.std.specs.Prelude.{Ok, None, Option, Some}
 use Rattle.outcome.proofs.OutcomeLaws.{below_or, and_true, ok_is}
 use Rattle.parse_buffer.specs.Bytes.{File}
 use Rattle.paged.specs.PageSize.{need}
@@ -22,8 +22,6 @@ use Rattle.stream.specs.Stream.{own_page, own_pages, skipped_to}
 use Rattle.stream.specs.declared.Found.{Found}
 use Rattle.stream.proofs.FindLaws.{skipped_at, found_at}
 use Rattle.extent.specs.Extent.{length_of, asked}
-use Rattle.extent.specs.declared.limit.Limit.{Limit}
-use Rattle.extent.specs.declared.limit.Limit.TheVariants.{None, AtMost}
 use Rattle.extent.proofs.ExtentLaws.{length_most}
 use Rattle.container_statements.specs.FileF.{F}
 use Rattle.isolation.specs.Listed.{entry_place, word_place, ListedOpen, ListedCount, ListedMap, ListedBytes}
@@ -37,15 +35,15 @@ use Rattle.isolation.proofs.LikeF.{Like, like_f, like_short, header_is, one_loca
 data Read (g : File) (k i : ℕ) : Type 0 where
   count : 1024 ≤ i → i < 1028 → Read g k i
   size : k < 3 → 1028 ≤ i → i < 1032 + 4 * k → Read g k i
-  own : {x : Found} → skipped_to g 6144 k ≡ ok x → 1024 + 4 * x.first ≤ i → i < 1024 + 4 * (x.first + own_pages x) → Read g k i
+  own : {x : Found} → skipped_to g 6144 k ≡ Ok x → 1024 + 4 * x.first ≤ i → i < 1024 + 4 * (x.first + own_pages x) → Read g k i
 
-data Part (g : File) (n k : ℕ) (limit : Limit) (i : ℕ) : Type 0 where
+data Part (g : File) (n k : ℕ) (limit : Option ℕ) (i : ℕ) : Type 0 where
   start : Within start_f i → Part g n k limit i
   word : i < 1024 + 4 * (n / 4) → Read g k i → Part g n k limit i
-  byte : {j : ℕ} {x : Found} → skipped_to g 6144 k ≡ ok x → j < length_of limit x.size → i ≡ through x.header.pagesize (own_page g x) j → Part g n k limit i
+  byte : {j : ℕ} {x : Found} → skipped_to g 6144 k ≡ Ok x → j < length_of limit x.size → i ≡ through x.header.pagesize (own_page g x) j → Part g n k limit i
 
 module _ {g : File} {n : ℕ} (like : Like g n) (small : n ≤ 36) where
-  entry_of : {h : Header} → located g 6144 ≡ ok h → (j : ℕ) → j < directory_pages h → entry_place g h j ≡ 768
+  entry_of : {h : Header} → located g 6144 ≡ Ok h → (j : ℕ) → j < directory_pages h → entry_place g h j ≡ 768
   entry_of o j l = let same = header_is like small o in rw same (entry_at like small j (rw same at l))
 
   record Directory (h : Header) : Type 0 where
@@ -53,11 +51,11 @@ module _ {g : File} {n : ℕ} (like : Like g n) (small : n ≤ 36) where
     count : directory_word g h.pagesize 0 ≡ 3
     word : (w : ℕ) → w < words h → word_place g h w ≡ 1024 + 4 * w
 
-  directory : {h : Header} → reached g 6144 ≡ ok h → Directory h
+  directory : {h : Header} → reached g 6144 ≡ Ok h → Directory h
   directory d =
       rw (header_is like small (reached_at g 6144 d).located) record { held = refl; count = like.count; word = word_at like small }
 
-  part : (k : ℕ) (limit : Limit) (i : ℕ) → ListedBytes g 6144 k limit i → Part g n k limit i
+  part : (k : ℕ) (limit : Option ℕ) (i : ℕ) → ListedBytes g 6144 k limit i → Part g n k limit i
   part k limit i (ListedBytes.mapping (ListedMap.counting (ListedCount.opening (ListedOpen.start l)))) =
       Part.start (inl (omega arith))
   part k limit i (ListedBytes.mapping (ListedMap.counting (ListedCount.opening (ListedOpen.fields l m)))) =
@@ -84,17 +82,17 @@ module _ {g : File} {n : ℕ} (like : Like g n) (small : n ≤ 36) where
       let e = r.word (x.first + j) (omega (arith, leb-true)) in
       Part.word (omega (arith, leb-true, w.1)) (Read.own s (omega (arith, w.0)) (omega (arith, w.1)))
   part k limit i (ListedBytes.bytes {x} r m) =
-      let p : asked g 6144 k limit ≡ ok x = (readable_at g 6144 k limit r).asked in
+      let p : asked g 6144 k limit ≡ Ok x = (readable_at g 6144 k limit r).asked in
       let b = stream_byte_lem g 6144 k limit p i m in
       let size = (asked_at g 6144 k limit p).length in
       Part.byte {j = b.index} (found_at g 6144 k (asked_at g 6144 k limit p).found).skipped (omega (arith, b.below)) b.at
 
 -- ---- stream by stream
-abbrev Parts : (k : ℕ) → Limit → List (ℕ × ℕ) → Type 0
+abbrev Parts : (k : ℕ) → Option ℕ → List (ℕ × ℕ) → Type 0
 Parts k limit ranges = (i : ℕ) → Part F 36 k limit i → Within start_f i ⊎ Within ranges i
 
 -- of the streams that are there, where at most n bytes are asked for
-parts_0 : (limit : Limit) (n : ℕ) → length_of limit 300 ≤ n → Parts 0 limit (stream_zero n)
+parts_0 : (limit : Option ℕ) (n : ℕ) → length_of limit 300 ≤ n → Parts 0 limit (stream_zero n)
 unfolding need
 parts_0 limit n f i (Part.start w) = inl w
 parts_0 limit n f i (Part.word _ (Read.count a b)) = inr (inl (omega arith))
@@ -111,7 +109,7 @@ parts_0 limit n f i (Part.byte {j} s l e) =
     let place = rw same at e ∙ place_0 like_f (omega arith) j (omega arith) in
     inr (inr (inr (inl (omega arith))))
 
-parts_2 : (limit : Limit) (n : ℕ) → length_of limit 600 ≤ n → Parts 2 limit (stream_two n)
+parts_2 : (limit : Option ℕ) (n : ℕ) → length_of limit 600 ≤ n → Parts 2 limit (stream_two n)
 unfolding need
 parts_2 limit n f i (Part.start w) = inl w
 parts_2 limit n f i (Part.word _ (Read.count a b)) = inr (inl (omega arith))
@@ -131,14 +129,14 @@ parts_2 limit n f i (Part.byte {j} s l e) =
     (λ (m : 512 ≤ j). let at = place ∙ last_2 like_f (omega arith) j m (omega arith) in inr (inr (inr (inr (inl (omega arith))))))
     (below_or j 512)
 
-parts_1 : (limit : Limit) → Parts 1 limit ((1024, 1036) ∷ [])
+parts_1 : (limit : Option ℕ) → Parts 1 limit ((1024, 1036) ∷ [])
 parts_1 limit i (Part.start w) = inl w
 parts_1 limit i (Part.word _ (Read.count a b)) = inr (inl (omega arith))
 parts_1 limit i (Part.word _ (Read.size a b c)) = inr (inl (omega arith))
 parts_1 limit i (Part.word _ (Read.own s a b)) = absurd (not_1 like_f (omega arith) s)
 parts_1 limit i (Part.byte s l e) = absurd (not_1 like_f (omega arith) s)
 
-parts_more : (k : ℕ) (limit : Limit) → 3 ≤ k → Parts k limit ((1024, 1028) ∷ [])
+parts_more : (k : ℕ) (limit : Option ℕ) → 3 ≤ k → Parts k limit ((1024, 1028) ∷ [])
 parts_more k limit l i (Part.start w) = inl w
 parts_more k limit l i (Part.word _ (Read.count a b)) = inr (inl (omega arith))
 parts_more k limit l i (Part.word _ (Read.size a b c)) = absurd (omega arith)
@@ -172,7 +170,7 @@ beside : (ranges : List (ℕ × ℕ)) {a b : ℕ} (i : ℕ) → a ≤ i → i < 
 beside ranges i l m c d = ⊎_elim (off start_f i l m c) (off ranges i l m d)
 
 -- every stream's bytes stand past page 4
-past_four : {g : File} {n : ℕ} → Like g n → n ≤ 36 → (k : ℕ) (limit : Limit) {j : ℕ} {x : Found} → skipped_to g 6144 k ≡ ok x → j < length_of limit x.size → 1280 ≤ through x.header.pagesize (own_page g x) j
+past_four : {g : File} {n : ℕ} → Like g n → n ≤ 36 → (k : ℕ) (limit : Option ℕ) {j : ℕ} {x : Found} → skipped_to g 6144 k ≡ Ok x → j < length_of limit x.size → 1280 ≤ through x.header.pagesize (own_page g x) j
 past_four like small zero limit {j} s l =
     let same = is_0 like small s in
     let below = rw same at l in
@@ -198,7 +196,7 @@ not_held n k i small l m limit x = go (part (like_short n) small k limit i x)
     go (Part.word h _) = omega arith
     go (Part.byte s b e) = let past = past_four (like_short n) small k limit s b in omega arith
 
-list : (k : ℕ) (limit : Limit) (i : ℕ) → ListedBytes F 6144 k limit i → Part F 36 k limit i
+list : (k : ℕ) (limit : Option ℕ) (i : ℕ) → ListedBytes F 6144 k limit i → Part F 36 k limit i
 list = part like_f (omega arith)
 
 pub not_too_much : NotTooMuch
@@ -217,6 +215,6 @@ not_too_much =
       entries_of_2 = λ i l m limit x. beside (stream_zero 300) i l m refl refl (parts_0 limit _ (length_most limit 300) i (list 0 limit i x));
       pages_of_0 = λ i l m limit x. beside (stream_two 600) i l m refl refl (parts_2 limit _ (length_most limit 600) i (list 2 limit i x));
       slack = λ i l m x. beside (stream_two 600) i l m refl refl (parts_2 None 600 (omega arith) i (list 2 None i x));
-      past_the_cut = λ i l m x. beside (stream_two 513) i l m refl refl (parts_2 (AtMost 513) 513 (omega arith) i (list 2 (AtMost 513) i x));
+      past_the_cut = λ i l m x. beside (stream_two 513) i l m refl refl (parts_2 (Some 513) 513 (omega arith) i (list 2 (Some 513) i x));
       page_four = λ k i l. not_held 0 k i (omega arith) (omega arith);
     }

@@ -8,7 +8,8 @@ use mathlib.Core.Logic.{⊎_elim}
 use Prim.Native.Nat.{ℕ, ◌*◌, ◌/◌, min, ◌<◌}
 use native.Mathlib.Omega.{arith}
 use borrow.Author.Tests.{leb-true, le-leb}
-use Rattle.outcome.specs.Outcome.{ok, require}
+use Rattle.std.specs.Prelude.{Ok}
+use Rattle.outcome.specs.Outcome.{require}
 use Rattle.outcome.proofs.OutcomeLaws.{below_or, passed, bind_same, then_same}
 use Rattle.outcome.proofs.EachLaws.{each_same}
 use Rattle.parse_buffer.specs.Bytes.{File}
@@ -69,7 +70,7 @@ module _ (f g : File) (len : ℕ) (agree : Agree (ListedOpen f len) f g) where
       then_same magic_same λ _ _.
       refl)
 
-  location_listed : {h : Header} → headed f len ≡ ok h → (j : ℕ) → j < min (location_pages h) entries_in_block → location f j ≡ location g j
+  location_listed : {h : Header} → headed f len ≡ Ok h → (j : ℕ) → j < min (location_pages h) entries_in_block → location f j ≡ location g j
   unfolding location
   location_listed o j l = word_same λ i a b. agree i (ListedOpen.locations {j = j} o (omega arith) (omega arith))
 
@@ -80,7 +81,7 @@ module _ (f g : File) (len : ℕ) (agree : Agree (ListedOpen f len) f g) where
       then_same (check_same _ _ (location_listed o)) λ _ _.
       refl
 
-  pub location_same : {h : Header} → located f len ≡ ok h → (j : ℕ) → j < location_pages h → location f j ≡ location g j
+  pub location_same : {h : Header} → located f len ≡ Ok h → (j : ℕ) → j < location_pages h → location f j ≡ location g j
   location_same o j l =
       let x = is_located f len o in
       let few = x.few in
@@ -88,10 +89,10 @@ module _ (f g : File) (len : ℕ) (agree : Agree (ListedOpen f len) f g) where
 
 -- ---- the location list, where the files agree on its bytes
 pub record AgreeOnList (f g : File) (len : ℕ) : Type 0 where
-  pub is : {i j : ℕ} {h : Header} → located f len ≡ ok h → list_lies f len h ≡ ok tt → j < directory_pages h → InWord (entry_place f h j) i → f i ≡ g i
+  pub is : {i j : ℕ} {h : Header} → located f len ≡ Ok h → list_lies f len h ≡ Ok tt → j < directory_pages h → InWord (entry_place f h j) i → f i ≡ g i
 
 module _ (f g : File) (len : ℕ) (opens : Agree (ListedOpen f len) f g) (list : AgreeOnList f g len) where
-  module _ {h : Header} (o : located f len ≡ ok h) (inside : list_lies f len h ≡ ok tt) where
+  module _ {h : Header} (o : located f len ≡ Ok h) (inside : list_lies f len h ≡ Ok tt) where
     pub entry_same : (j : ℕ) → j < directory_pages h → directory_page f h.pagesize j ≡ directory_page g h.pagesize j
     unfolding directory_page
     entry_same j l =
@@ -129,7 +130,7 @@ module _ (f g : File) (len : ℕ) (agree : Agree (ListedCount f len) f g) where
       then_same (lies_same _ _ _ _ (entry_same f g len opens lists at.located at.list)) λ _ _.
       refl
 
-  module _ {h : Header} (d : reached f len ≡ ok h) where
+  module _ {h : Header} (d : reached f len ≡ Ok h) where
     -- a word that the directory holds: its page number is the same, and so the word, where its own four bytes are listed
     pub held_same : (w : ℕ) → w < words h → ((i : ℕ) → InWord (word_place f h w) i → f i ≡ g i) → directory_word f h.pagesize w ≡ directory_word g h.pagesize w
     unfolding directory_word

@@ -4,7 +4,7 @@ use Prim.Native.Nat.{ℕ, zero, suc, ◌+◌, ◌/◌, ◌≤◌, ◌<◌}
 use native.Mathlib.Omega.{arith}
 use native.Mathlib.Nat.{le_refl}
 use borrow.Author.Tests.{leb-true, ltb-true, le-leb}
-use Rattle.outcome.specs.Outcome.{ok}
+use Rattle.std.specs.Prelude.{Ok, Option}
 use Rattle.outcome.proofs.OutcomeLaws.{passed, came, came_by, ok_is, bind_same, then_same}
 use Rattle.parse_buffer.specs.Bytes.{File}
 use Rattle.paged.specs.Pages.{through, directory_word}
@@ -22,7 +22,6 @@ use Rattle.mapping.specs.Mapping.{slices_in, mapping}
 use Rattle.msf.specs.Extraction.{bytes_through, bytes_in, extraction}
 use Rattle.extent.proofs.ExtentLaws.{asked_at, readable_at}
 use Rattle.mapping.proofs.MappingLaws.{mapping_at}
-use Rattle.extent.specs.declared.limit.Limit.{Limit}
 use Rattle.container_statements.proofs.Statements.{large}
 use Rattle.isolation.specs.Listed.{ListedCount, ListedMap, ListedBytes, Agree}
 use Rattle.isolation.proofs.NamedExactly.{is_named, few}
@@ -43,7 +42,7 @@ module _ (f g : File) (len k : ℕ) (agree : Agree (ListedMap f len k) f g) wher
   counts : Agree (ListedCount f len) f g
   counts i l = agree i (ListedMap.counting l)
 
-  module _ {h : Header} (d : reached f len ≡ ok h) (l : k < directory_word f h.pagesize 0) (t : 2 + k ≤ words h) where
+  module _ {h : Header} (d : reached f len ≡ Ok h) (l : k < directory_word f h.pagesize 0) (t : 2 + k ≤ words h) where
     size_same : (j : ℕ) → j ≤ k → size_at f h.pagesize j ≡ size_at g h.pagesize j
     size_same j m =
         held_same f g len counts d (1 + j) (omega arith) (λ i w. agree i (ListedMap.sizes {j = j} d (omega arith) (omega arith) (omega (arith, le-leb)) w))
@@ -64,7 +63,7 @@ module _ (f g : File) (len k : ℕ) (agree : Agree (ListedMap f len k) f g) wher
       rw (← size_same d (ltb-true _ _ (passed _ _ l)) (leb-true _ _ (passed _ _ t')) k (le_refl k))
       refl)
 
-  sized_before : {x : Present} → present f len k ≡ ok x → pages_before f x.header.pagesize k ≡ pages_before g x.header.pagesize k
+  sized_before : {x : Present} → present f len k ≡ Ok x → pages_before f x.header.pagesize k ≡ pages_before g x.header.pagesize k
   unfolding present
   sized_before {x} e =
       came_by _ _ e λ h d e₁.
@@ -79,7 +78,7 @@ module _ (f g : File) (len k : ℕ) (agree : Agree (ListedMap f len k) f g) wher
   unfolding skipped_to
   listed_same = bind_same sized_same λ x s. rw (sized_before s)
 
-  module _ {x : Found} (s : skipped_to f len k ≡ ok x) where
+  module _ {x : Found} (s : skipped_to f len k ≡ Ok x) where
     own_same : (j : ℕ) → j < own_pages x → x.first + j < words x.header → own_page f x j ≡ own_page g x j
     own_same j l t =
         held_same f g len counts (skipped_at f len k s).reached (x.first + j) t
@@ -92,11 +91,11 @@ module _ (f g : File) (len k : ℕ) (agree : Agree (ListedMap f len k) f g) wher
       then_same (check_same _ _ (λ j l. own_same s j (omega arith) (omega arith))) λ _ _.
       refl
 
-  pub asked_same : (limit : Limit) → asked f len k limit ≡ asked g len k limit
+  pub asked_same : (limit : Option ℕ) → asked f len k limit ≡ asked g len k limit
   unfolding asked
   asked_same limit = rw found_same
 
-  module _ (limit : Limit) {x : Asked} (p : asked f len k limit ≡ ok x) where
+  module _ (limit : Option ℕ) {x : Asked} (p : asked f len k limit ≡ Ok x) where
     pub page_same : (j : ℕ) → j < own_pages x.found → own_page f x.found j ≡ own_page g x.found j
     page_same j l =
         let at = found_at f len k (asked_at f len k limit p).found in
@@ -106,11 +105,11 @@ module _ (f g : File) (len k : ℕ) (agree : Agree (ListedMap f len k) f g) wher
     pub slices_in_same : slices_in f x ≡ slices_in g x
     slices_in_same = rw (slices_same x.found.header.pagesize (own_pages x.found) page_same)
 
-  pub mapping_same : (limit : Limit) (room : ℕ) → mapping f len k limit room ≡ mapping g len k limit room
+  pub mapping_same : (limit : Option ℕ) (room : ℕ) → mapping f len k limit room ≡ mapping g len k limit room
   unfolding mapping
   mapping_same limit room = bind_same (asked_same limit) λ x p. rw (slices_in_same limit p)
 
-  pub mapped_slices : (limit : Limit) (room : ℕ) {x : Asked} → mapping f len k limit room ≡ ok x → slices_in f x ≡ slices_in g x
+  pub mapped_slices : (limit : Option ℕ) (room : ℕ) {x : Asked} → mapping f len k limit room ≡ Ok x → slices_in f x ≡ slices_in g x
   mapped_slices limit room m = slices_in_same limit (mapping_at f len k limit room m).asked
 
 -- ---- extraction
@@ -119,7 +118,7 @@ unfolding bytes_through
 through_same f g p a b zero h = refl
 through_same f g p a b (suc n) h = rw (through_same f g p a b n (λ i l. h i (omega arith)), h n (omega arith))
 
-module _ (f g : File) (len k : ℕ) (limit : Limit) (agree : Agree (ListedBytes f len k limit) f g) where
+module _ (f g : File) (len k : ℕ) (limit : Option ℕ) (agree : Agree (ListedBytes f len k limit) f g) where
   maps : Agree (ListedMap f len k) f g
   maps i l = agree i (ListedBytes.mapping l)
 
@@ -130,7 +129,7 @@ module _ (f g : File) (len k : ℕ) (limit : Limit) (agree : Agree (ListedBytes 
       then_same (lies_same _ _ _ _ (λ j l. let m = few f len k limit p in page_same f g len k maps limit p j (omega arith))) λ _ _.
       refl
 
-  pub bytes_in_same : {x : Asked} → readable f len k limit ≡ ok x → bytes_in f x ≡ bytes_in g x
+  pub bytes_in_same : {x : Asked} → readable f len k limit ≡ Ok x → bytes_in f x ≡ bytes_in g x
   bytes_in_same {x} r =
       let p = (readable_at f len k limit r).asked in
       through_same f g x.found.header.pagesize (own_page f x.found) (own_page g x.found) x.length (λ i l.
@@ -143,7 +142,7 @@ module _ (f g : File) (len k : ℕ) (limit : Limit) (agree : Agree (ListedBytes 
   unfolding extraction
   extraction_same room = rw readable_same
 
-  pub extracted_bytes : (room : ℕ) {x : Asked} → extraction f len k limit room ≡ ok x → bytes_in f x ≡ bytes_in g x
+  pub extracted_bytes : (room : ℕ) {x : Asked} → extraction f len k limit room ≡ Ok x → bytes_in f x ≡ bytes_in g x
   unfolding extraction
   extracted_bytes room e =
       came_by _ _ e λ y r e₁.

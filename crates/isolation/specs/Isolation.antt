@@ -1,12 +1,11 @@
 -- Demand 3, of the operations: two files of equal length that agree on the listed bytes give, for equal stores, stream
 -- and limit, the same answer, refusals and room needed included, and the same stores afterwards.
-use Rattle.std.specs.Prelude.{◌≡◌, List, ℕ}
+use Rattle.std.specs.Prelude.{◌≡◌, List, ℕ, Option}
 use Rattle.parse_buffer.specs.Bytes.{File}
 use Rattle.header.specs.Promises.{Opening}
 use Rattle.directory.specs.Promises.{Counting}
 use Rattle.slices.specs.declared.SourceSlice.{SourceSlice}
 use Rattle.msf.specs.Promises.{Maps, Extracts}
-use Rattle.extent.specs.declared.limit.Limit.{Limit}
 use Rattle.slice_store.specs.Promises.{MapsInto}
 use Rattle.isolation.specs.Listed.{ListedOpen, ListedCount, ListedMap, ListedBytes, Agree}
 
@@ -23,9 +22,9 @@ Equal₃ {A} {B} {C} P Q = (a b : A) (x y : B) (u v : C) → P a x u → Q b y v
 pub record Isolation (f g : File) (len : ℕ) : Type 0 where
   pub opening : Agree (ListedOpen f len) f g → Equal (Opening f len) (Opening g len)
   pub of_stream_count : Agree (ListedCount f len) f g → Equal (Counting f len) (Counting g len)
-  pub map : (k : ℕ) (limit : Limit) (offsets sizes : List ℕ) → Agree (ListedMap f len k) f g →
+  pub map : (k : ℕ) (limit : Option ℕ) (offsets sizes : List ℕ) → Agree (ListedMap f len k) f g →
       Equal₃ (Maps f len k limit offsets sizes) (Maps g len k limit offsets sizes)
-  pub extract : (k : ℕ) (limit : Limit) (out : List ℕ) → Agree (ListedBytes f len k limit) f g →
+  pub extract : (k : ℕ) (limit : Option ℕ) (out : List ℕ) → Agree (ListedBytes f len k limit) f g →
       Equal₂ (Extracts f len k limit out) (Extracts g len k limit out)
-  pub map_into : (k : ℕ) (limit : Limit) (store : List SourceSlice) → Agree (ListedMap f len k) f g →
+  pub map_into : (k : ℕ) (limit : Option ℕ) (store : List SourceSlice) → Agree (ListedMap f len k) f g →
       Equal₂ (MapsInto f len k limit store) (MapsInto g len k limit store)

@@ -6,9 +6,8 @@
 
 #![tactic(auto)]
 
-ghost use Rattle.std.specs.Prelude.{ℕ};
+ghost use Rattle.std.specs.Prelude.{ℕ, Option};
 ghost use Rattle.parse_buffer.specs.Bytes.{File};
-ghost use Rattle.extent.specs.declared.limit.Limit.{Limit};
 ghost use Rattle.isolation.specs.Isolation.{Isolation};
 ghost use Rattle.isolation.specs.Boundary.{Boundary};
 ghost use Rattle.isolation.specs.Corollaries.{Corollaries};
@@ -22,10 +21,10 @@ ghost use Rattle.isolation.specs.Cases.{Cases};
 pub fn proved()
     ensures isolation { (f g : File) (len : ℕ) → Isolation f g len }
     ensures boundary { (f g : File) (len : ℕ) → Boundary f g len }
-    ensures corollaries { (f g : File) (len k : ℕ) (limit : Limit) → Corollaries f g len k limit }
-    ensures named_exactly { (f : File) (len k : ℕ) (limit : Limit) → NamedExactly f len k limit }
-    ensures stages { (f : File) (len k : ℕ) (limit : Limit) (i : ℕ) → Stages f len k limit i }
-    ensures in_file { (f : File) (len k : ℕ) (limit : Limit) → InFile f len k limit }
+    ensures corollaries { (f g : File) (len k : ℕ) (limit : Option ℕ) → Corollaries f g len k limit }
+    ensures named_exactly { (f : File) (len k : ℕ) (limit : Option ℕ) → NamedExactly f len k limit }
+    ensures stages { (f : File) (len k : ℕ) (limit : Option ℕ) (i : ℕ) → Stages f len k limit i }
+    ensures in_file { (f : File) (len k : ℕ) (limit : Option ℕ) → InFile f len k limit }
     ensures tight { Tight }
     ensures not_too_much { NotTooMuch }
     ensures cases { Cases }

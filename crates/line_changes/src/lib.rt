@@ -1,138 +1,87 @@
 // The changes of a line program's state that annotations are made of (docs/LINES.md). A record is handed out when the
 // next one is emitted: until then its length may be set.
-#![tactic(auto)]
+#![tactic(auto, unfolding(crate::specs::Change::closed, crate::specs::Change::settled, crate::specs::Change::emission, crate::specs::Change::lengthening, crate::specs::Inner::closing, outcome::specs::Outcome::and_then, outcome::specs::Outcome::and_next, outcome::specs::Outcome::require))]
 
-ghost use Rattle.std.specs.Prelude.{◌≡◌, ◌+◌};
+ghost use Rattle.std.specs.Prelude.{◌≡◌, ◌+◌, Ok, None, ok_or};
 ghost use Rattle.line_state.specs.State.{with_code};
-ghost use Rattle.line_state.specs.declared.state.MaybeLine.TheVariants as maybe;
-ghost use Rattle.line_changes.specs.Change.{after, emission, lengthening, advancing_line, advancing_end, emission_on_line};
-ghost use Rattle.line_changes.specs.Inner.{closing, turned_in};
+ghost use Rattle.line_changes.specs.Change.{after, settled, emission, lengthening};
+ghost use Rattle.line_changes.specs.Inner.{closing};
 
-use annotations::long;
-use line_state::{Length, Line, MaybeLine, Position, State, Sum, advanced};
+use line_state::{Line, Position, State};
 
-// The largest offset of a record.
-const LARGEST_OFFSET: u64 = 0xffff_ffff;
-
-// The next state, and the record that was closed, if one was.
-#[derive(Clone, Copy)]
+/// The next state, and the record that was closed, if one was.
+#[derive(Clone, Copy, Debug, PartialEq, Eq)]
 pub struct After {
     pub state: State,
-    pub closed: MaybeLine,
+    pub closed: Option<Line>,
 }
 
-#[derive(Clone, Copy)]
-pub enum Turned {
-    On(After),
-    // 25.
-    Bad,
-}
-
-// Goes on from a position. No record is closed.
-pub fn on(at: Position, last: MaybeLine) -> Turned
-    ensures { turned_in result ≡ after at last maybe.None }
+/// Goes on from a position. No record is closed.
+pub fn on(at: Position, last: Option<Line>) -> After
+    ensures { Ok result ≡ after at last None }
 {
-    Turned::On(After {
+    After {
         state: State { at, last },
-        closed: MaybeLine::None,
-    })
+        closed: None,
+    }
 }
 
-pub fn advance_line(at: Position, last: MaybeLine, by: i32) -> Turned
-    ensures { turned_in result ≡ advancing_line at last by }
+/// Sets the length of the record that was emitted last. The code offset stays. Before any emission that is a bad line.
+pub fn set_length(at: Position, last: Option<Line>, length: u32) -> Option<After>
+    ensures { ok_or result tt ≡ lengthening at last length }
 {
-    let Sum::Is(line) = advanced(at.line, long(by)) else {
-        return Turned::Bad;
-    };
-    on(at.with_line(line), last)
-}
-
-pub fn advance_end(at: Position, last: MaybeLine, by: i32) -> Turned
-    ensures { turned_in result ≡ advancing_end at last by }
-{
-    let Sum::Is(end) = advanced(at.end, long(by)) else {
-        return Turned::Bad;
-    };
-    on(at.with_end(end), last)
-}
-
-// Sets the length of the record that was emitted last. The code offset stays.
-pub fn set_length(at: Position, last: MaybeLine, length: u32) -> Turned
-    ensures { turned_in result ≡ lengthening at last length }
-{
-    let MaybeLine::Some(line) = last else {
-        return Turned::Bad;
-    };
-    let from = line.at;
-    on(
+    let line = last?;
+    Some(on(
         at,
-        MaybeLine::Some(Line {
-            at: from,
-            length: Length::Bytes(length),
+        Some(Line {
+            length: Some(length),
+            ..line
         }),
-    )
+    ))
 }
 
-pub fn emit_on_line(last: MaybeLine, at: Position, by: u32, lines: i32) -> Turned
-    ensures { turned_in result ≡ emission_on_line last at by lines }
+/// Advances the code offset and emits a record there, with a length of its own or none. It is a bad line if an offset
+/// leaves 32 bits, or falls where a length is due.
+pub fn emit(last: Option<Line>, at: Position, by: u32, own: Option<u32>) -> Option<After>
+    ensures { ok_or result tt ≡ emission last (with_code at (at.code + by)) own }
 {
-    let Sum::Is(line) = advanced(at.line, long(lines)) else {
-        return Turned::Bad;
-    };
-    emit(last, at.with_line(line), by, Length::None)
-}
-
-// Advances the code offset and emits a record there, with a length of its own or none.
-pub fn emit(last: MaybeLine, at: Position, by: u32, own: Length) -> Turned
-    ensures { turned_in result ≡ emission last (with_code at (at.code + by)) own }
-{
-    let code = at.code as u64 + by as u64;
-    let offset = at.base as u64 + code;
-    if LARGEST_OFFSET < offset {
-        return Turned::Bad;
-    }
-    let here = at.with_code(code as u32);
-    let line = Line {
-        at: here,
-        length: own,
-    };
+    let code = at.code.checked_add(by)?;
+    let offset = at.base.checked_add(code)?;
+    let at = Position { code, ..at };
+    let line = Line { at, length: own };
     let state = State {
-        at: here,
-        last: MaybeLine::Some(line),
+        at,
+        last: Some(line),
     };
-    close(last, state, offset as u32)
+    close(last, state, offset)
 }
 
-// Closes the last record where the next one begins, at an offset. If it has no length yet, that is the difference of
-// the offsets.
-fn close(last: MaybeLine, state: State, offset: u32) -> Turned
-    ensures { turned_in result ≡ closing last state offset }
+// Closes the last record where the next one begins, at an offset.
+fn close(last: Option<Line>, state: State, offset: u32) -> Option<After>
+    ensures { ok_or result tt ≡ closing last state offset }
 {
-    let MaybeLine::Some(line) = last else {
-        return Turned::On(After {
+    let Some(line) = last else {
+        return Some(After {
             state,
-            closed: MaybeLine::None,
+            closed: None,
         });
     };
-    let length = line.length;
-    let Length::None = length else {
-        return Turned::On(After {
-            state,
-            closed: MaybeLine::Some(line),
-        });
-    };
-    let at = line.at;
-    let from = at.offset();
-    let to = offset as u64;
-    if to < from {
-        return Turned::Bad;
-    }
-    let between = to - from;
-    Turned::On(After {
+    let length = Some(length_to(line, offset)?);
+    Some(After {
         state,
-        closed: MaybeLine::Some(Line {
-            at,
-            length: Length::Bytes(between as u32),
-        }),
+        closed: Some(Line { length, ..line }),
     })
+}
+
+// The length of a record that is closed at an offset. If it has none yet, that is the difference of the offsets.
+fn length_to(line: Line, offset: u32) -> Option<u32>
+    ensures { ok_or result tt ≡ settled line.at line.length offset }
+{
+    match line.length {
+        Some(length) => Some(length),
+        None => {
+            let between = u64::from(offset).checked_sub(line.at.offset())?;
+            Some(between as u32)
+        }
+    }
 }

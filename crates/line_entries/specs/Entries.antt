@@ -1,24 +1,20 @@
 -- Request 2026-07: line records in the store.
-use Rattle.std.specs.Prelude.{ℕ, List, [], ◌∷◌, ◌++◌, ℤ, pos, negsuc}
+use Rattle.std.specs.Prelude.{ℕ, List, [], ◌∷◌, ◌++◌, ℤ, pos, negsuc, Option, Some, None}
 use Rattle.line_state.specs.State.{offset_of}
-use Rattle.line_state.specs.declared.state.Length.{Length}
-use Rattle.line_state.specs.declared.state.Length.TheVariants as length_case
 use Rattle.line_state.specs.declared.state.Line.{Line}
-use Rattle.line_state.specs.declared.state.MaybeLine.{MaybeLine}
-use Rattle.line_state.specs.declared.state.MaybeLine.TheVariants as maybe
 
-abbrev pub listed : MaybeLine → List Line
-listed maybe.None = []
-listed (maybe.Some l) = l ∷ []
+abbrev pub listed : Option Line → List Line
+listed None = []
+listed (Some l) = l ∷ []
 
 -- "A record is eight signed 64-bit numbers: offset, length (-1 for none), file, line, line count, kind, start column,
 -- end column"
 abbrev pub entries_each : ℕ
 entries_each = 8
 
-abbrev pub length_entry : Length → ℤ
-length_entry length_case.None = negsuc 0
-length_entry (length_case.Bytes n) = pos n
+abbrev pub length_entry : Option ℕ → ℤ
+length_entry None = negsuc 0
+length_entry (Some n) = pos n
 
 abbrev pub line_entries : Line → List ℤ
 line_entries l =

@@ -1,15 +1,14 @@
 -- Request 2026-07: the state of a line program, and its records.
-use Rattle.std.specs.Prelude.{ℕ, ◌+◌, ℤ, pos}
+use Rattle.std.specs.Prelude.{ℕ, ◌+◌, ℤ, pos, None}
 use Rattle.line_state.specs.declared.state.Position.{Position}
 use Rattle.line_state.specs.declared.state.State.{State}
-use Rattle.line_state.specs.declared.state.MaybeLine.TheVariants as maybe
 
 -- "Start: code offset, base, file, line, columns 0; line count 1; kind 1"
 abbrev pub start : State
 start =
     record {
       at = record { code = 0; base = 0; file = 0; line = pos 0; count = 1; kind = 1; start = 0; end = pos 0 };
-      last = maybe.None;
+      last = None;
     }
 
 -- "offset (base plus code offset)"

@@ -1,10 +1,6 @@
-// The line program's state (docs/LINES.md).
-//
-// state.rt: the state, and the line records. sum.rt: a signed sum that may leave 64 bits.
-#![tactic(auto)]
+// The line program's state, and the line records (docs/LINES.md).
+#![tactic(auto, unfolding(crate::specs::Sum::summed, outcome::specs::Outcome::and_then, outcome::specs::Outcome::and_next, outcome::specs::Outcome::require))]
 
 mod state;
-mod sum;
 
-pub use state::{Length, Line, MaybeLine, Position, State};
-pub use sum::{Sum, advanced};
+pub use state::{Line, Position, State};

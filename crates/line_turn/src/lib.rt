@@ -1,49 +1,59 @@
 // What one annotation does to the state of a line program (docs/LINES.md).
 #![tactic(auto)]
 
-ghost use Rattle.std.specs.Prelude.{◌≡◌};
+ghost use Rattle.std.specs.Prelude.{◌≡◌, ok_or};
 ghost use Rattle.annotations.specs.Annotation.{annotation_of};
-ghost use Rattle.line_changes.specs.Inner.{turned_in};
 ghost use Rattle.line_turn.specs.Turn.{turning};
 
-use annotations::{decode_signed_operand, wide};
-use line_changes::{Turned, advance_end, advance_line, emit, emit_on_line, on, set_length};
-use line_state::{Length, State};
+use annotations::decode_signed_operand;
+use line_changes::{After, emit, on, set_length};
+use line_state::{Position, State};
 
-// Takes one annotation, by its opcode and its operands. Only 12 has the second one, w.
-pub fn turn(s: State, opcode: u32, v: u32, w: u32) -> Turned
-    ensures { turned_in result ≡ turning s (annotation_of opcode v w) }
+/// Takes one annotation, by its opcode and its operands. Only 12 has the second one, w. None is a bad line.
+#[tactic(auto, unfolding(crate::specs::Turn::turning, annotations::specs::Annotation::annotation_of, line_changes::specs::Change::advancing_line, line_changes::specs::Change::advancing_end, line_changes::specs::Change::emission_on_line, outcome::specs::Outcome::and_then))]
+pub fn turn(state: State, opcode: u32, v: u32, w: u32) -> Option<After>
+    ensures { ok_or result tt ≡ turning state (annotation_of opcode v w) }
 {
-    let at = s.at;
-    let last = s.last;
+    let State { at, last } = state;
     match opcode {
         // CodeOffset
-        1 => on(at.with_code(v), last),
+        1 => Some(on(Position { code: v, ..at }, last)),
         // ChangeCodeOffsetBase
-        2 => on(at.with_base(v), last),
+        2 => Some(on(Position { base: v, ..at }, last)),
         // ChangeCodeOffset
-        3 => emit(last, at, v, Length::None),
+        3 => emit(last, at, v, None),
         // ChangeCodeLength
         4 => set_length(at, last, v),
         // ChangeFile
-        5 => on(at.with_file(v), last),
+        5 => Some(on(Position { file: v, ..at }, last)),
         // ChangeLineOffset
-        6 => advance_line(at, last, decode_signed_operand(v)),
+        6 => Some(on(at.advance_line(decode_signed_operand(v))?, last)),
         // ChangeLineEndDelta
-        7 => on(at.with_count(v), last),
+        7 => Some(on(Position { count: v, ..at }, last)),
         // ChangeRangeKind
-        8 => on(at.with_kind(v), last),
+        8 => Some(on(Position { kind: v, ..at }, last)),
         // ChangeColumnStart
-        9 => on(at.with_start(v), last),
+        9 => Some(on(Position { start: v, ..at }, last)),
         // ChangeColumnEndDelta
-        10 => advance_end(at, last, decode_signed_operand(v)),
+        10 => Some(on(at.advance_end(decode_signed_operand(v))?, last)),
         // ChangeCodeOffsetAndLineOffset
-        11 => emit_on_line(last, at, v % 16, decode_signed_operand(v / 16)),
+        11 => emit(
+            last,
+            at.advance_line(decode_signed_operand(v / 16))?,
+            v % 16,
+            None,
+        ),
         // ChangeCodeLengthAndCodeOffset
-        12 => emit(last, at, w, Length::Bytes(v)),
+        12 => emit(last, at, w, Some(v)),
         // ChangeColumnEnd
-        13 => on(at.with_end(wide(v)), last),
+        13 => Some(on(
+            Position {
+                end: i64::from(v),
+                ..at
+            },
+            last,
+        )),
         // The decoder answers no other.
-        _ => Turned::Bad,
+        _ => None,
     }
 }

@@ -1,8 +1,8 @@
 -- Request 2026-07, "turns annotations into line records": the program over what the decoder found, its records in the
 -- store, and the order of its refusals.
-use Rattle.std.specs.Prelude.{ℕ, suc, ◌-◌, ◌*◌, ◌^◌, min, List, [], ◌∷◌, ◌++◌, length, leb}
+use Rattle.std.specs.Prelude.{ℕ, suc, ◌-◌, ◌*◌, ◌^◌, min, List, [], ◌∷◌, ◌++◌, length, leb, Result, Ok}
 use Rattle.std.proofs.Math.Option.{none}
-use Rattle.outcome.specs.Outcome.{Outcome, ok, ◌>>=◌, ◌>>◌, require, raise}
+use Rattle.outcome.specs.Outcome.{◌>>=◌, ◌>>◌, require, raise}
 use Rattle.annotations.specs.Step.{PlacedTriple}
 use Rattle.decode.specs.Decode.{Run, decode_all, DecodeStop, with_place, no_room_for}
 use Rattle.line_state.specs.State.{start}
@@ -14,12 +14,12 @@ use Rattle.line_entries.specs.Entries.{listed, entries_each}
 -- ---- the records
 -- the records of a program that goes on from a state: those that the annotations close, and then the last one. Or the
 -- index of the first annotation that is refused, if the next one has index i
-unfoldable pub program : State → ℕ → List PlacedTriple → Outcome ℕ (List Line)
-program s i [] = ok (listed s.last)
+unfoldable pub program : State → ℕ → List PlacedTriple → Result (List Line) ℕ
+program s i [] = Ok (listed s.last)
 program s i (x ∷ later) = do
   a ← raise (λ _. i) (turning s x.triple)
   lines ← program a.state (suc i) later
-  ok (listed a.closed ++ lines)
+  Ok (listed a.closed ++ lines)
 
 -- ---- refusals
 -- 25, "with the annotation's index from 0". It has no place
@@ -28,11 +28,11 @@ bad_line i = record { refusal = record { number = 25; value = i }; place = none 
 
 -- "The decoder's refusals come up unchanged; whichever refusal comes first in the bytes wins": that of the decoder
 -- comes after all annotations that it found
-unfoldable pub lines_from : State → ℕ → Run → Outcome DecodeStop (List Line)
+unfoldable pub lines_from : State → ℕ → Run → Result (List Line) DecodeStop
 lines_from s i r = do
   lines ← raise bad_line (program s i r.found)
   raise with_place r.last
-  ok lines
+  Ok lines
 
 -- ---- the store
 -- the entries that n records need. Of 2^61 and more, which take a program of 2^62 bytes, 64 bits can say no more
@@ -40,11 +40,11 @@ abbrev pub needed : ℕ → ℕ
 needed n = min (entries_each * n) (2 ^ 64 - 1)
 
 -- ---- the operation: the records of these bytes, for a store of `room` entries. "10 last"
-unfoldable pub running : List ℕ → ℕ → Outcome DecodeStop (List Line)
+unfoldable pub running : List ℕ → ℕ → Result (List Line) DecodeStop
 running s room = do
   lines ← lines_from start 0 (decode_all s)
   require (leb (entries_each * length lines) room) (no_room_for (needed (length lines)))
-  ok lines
+  Ok lines
 
-abbrev pub how_many : Outcome DecodeStop (List Line) → Outcome DecodeStop ℕ
-how_many o = o >>= λ lines. ok (length lines)
+abbrev pub how_many : Result (List Line) DecodeStop → Result ℕ DecodeStop
+how_many o = o >>= λ lines. Ok (length lines)

@@ -8,4 +8,4 @@ mod run;
 
 pub use line_entries::ENTRIES_EACH;
 pub use refusal::Refusal;
-pub use run::{Ran, run_lines};
+pub use run::run_lines;

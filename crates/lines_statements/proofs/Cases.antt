@@ -1,6 +1,6 @@
 -- The worked programs, by computation.
 use mathlib.Core.Path.{refl}
-use Rattle.outcome.specs.Outcome.{◌>>=◌, ◌>>◌, require, raise}
+use Rattle.outcome.specs.Outcome.{and_next, and_then, require, raise}
 use Rattle.numbers.specs.Number.{short_width, number_at}
 use Rattle.annotations.specs.Signed.{signed_of}
 use Rattle.annotations.specs.Annotation.{annotation_of}
@@ -13,7 +13,7 @@ use Rattle.lines.specs.Lines.{program, lines_from, running}
 use Rattle.lines_statements.specs.Cases.{Cases}
 
 pub cases : Cases
-unfolding short_width number_at signed_of annotation_of operands step_at on_step run_from rest decode_all summed settled closed emission lengthening advancing_line advancing_end emission_on_line turning program lines_from running require raise ◌>>=◌ ◌>>◌
+unfolding short_width number_at signed_of annotation_of operands step_at on_step run_from rest decode_all summed settled closed emission lengthening advancing_line advancing_end emission_on_line turning program lines_from running require raise and_then and_next
 cases =
     record {
       nothing = refl;

@@ -9,7 +9,8 @@ use lib.ListN.{length, length-append, get_or-append}
 use lib.Seq.{get_or-append_seam, get_or-append-add}
 use lib.Dec.{leb}
 use lib.IntN.{ℤ, nat_abs}
-use Rattle.outcome.specs.Outcome.{ok, ◌>>◌, require}
+use Rattle.std.specs.Prelude.{Ok, Option, Some, None}
+use Rattle.outcome.specs.Outcome.{and_next, ◌>>◌, require}
 use Rattle.outcome.proofs.OutcomeLaws.{ok_is, ok_refused}
 use Rattle.annotations.specs.Annotation.{emits}
 use Rattle.annotations.specs.Step.{PlacedTriple}
@@ -18,11 +19,7 @@ use Rattle.line_state.specs.Sum.{OrBad}
 use Rattle.line_changes.specs.Change.{line_at, settled}
 use Rattle.line_turn.specs.Turn.{turning}
 use Rattle.line_state.specs.declared.state.Position.{Position}
-use Rattle.line_state.specs.declared.state.Length.{Length}
-use Rattle.line_state.specs.declared.state.Length.TheVariants as length_case
 use Rattle.line_state.specs.declared.state.Line.{Line}
-use Rattle.line_state.specs.declared.state.MaybeLine.{MaybeLine}
-use Rattle.line_state.specs.declared.state.MaybeLine.TheVariants as maybe
 use Rattle.line_state.specs.declared.state.State.{State}
 use Rattle.line_changes.specs.declared.After.{After}
 use Rattle.line_entries.specs.Entries.{listed}
@@ -33,13 +30,13 @@ use Rattle.lines_statements.proofs.Runs.{run_exactly}
 use Rattle.lines_statements.proofs.TurnKinds.{Kind, bad, leaves, sets, begins, closes, own, turn_kind}
 
 -- ---- what a turn does, by its kind
-abbrev held : MaybeLine → ℕ
+abbrev held : Option Line → ℕ
 held m = length (listed m)
 
-turned : (s : State) (x : PlacedTriple) {a : After} → turning s x.triple ≡ ok a → Kind s.last x.triple.opcode x.triple.first (ok a)
+turned : (s : State) (x : PlacedTriple) {a : After} → turning s x.triple ≡ Ok a → Kind s.last x.triple.opcode x.triple.first (Ok a)
 turned s x e = rw (← e) (turn_kind s x.triple.first x.triple.second x.triple.opcode)
 
-turn_many : {last : MaybeLine} {op : ℕ} {first : ℤ} {o : OrBad After} → Kind last op first o → {a : After} → o ≡ ok a → held a.closed + held a.state.last ≡ held last + cond (emits op) 1 0
+turn_many : {last : Option Line} {op : ℕ} {first : ℤ} {o : OrBad After} → Kind last op first o → {a : After} → o ≡ Ok a → held a.closed + held a.state.last ≡ held last + cond (emits op) 1 0
 turn_many bad e = absurd (ok_refused (sym e))
 turn_many (leaves p f n) e = rw (← ok_is e, f) (omega arith)
 turn_many (sets p f g) e = rw (← ok_is e, f, g) (omega arith)
@@ -63,29 +60,20 @@ as_many =
     }
 
 -- ---- every record that is closed has a length
-pub settled_bytes : (from : Position) (n : Length) (to : ℕ) {m : Length} → settled from n to ≡ ok m → (k : ℕ) × (m ≡ length_case.Bytes k)
-unfolding settled ◌>>◌ require
-settled_bytes from (length_case.Bytes k) to e = (k, ok_is (sym e))
-settled_bytes from length_case.None to e = go (leb (offset_of from) to) e
-  where
-    go : (b : Bool) {m : Length} → ◌≡◌ {A = OrBad Length} (require b tt >> ok (length_case.Bytes (to - offset_of from))) (ok m) → (k : ℕ) × (m ≡ length_case.Bytes k)
-    go true f = (to - offset_of from, ok_is (sym f))
-    go false f = absurd (ok_refused (sym f))
-
 -- all of these have one
 abbrev Lengthy : List Line → Type 0
-Lengthy l = (i : ℕ) → i < length l → (n : ℕ) × ((line_of l i).length ≡ length_case.Bytes n)
+Lengthy l = (i : ℕ) → i < length l → (n : ℕ) × ((line_of l i).length ≡ Some n)
 
-closed_lengthy : {last : MaybeLine} {op : ℕ} {first : ℤ} {o : OrBad After} → Kind last op first o → {a : After} → o ≡ ok a → (m : List Line) → Lengthy m → Lengthy (listed a.closed ++ m)
+closed_lengthy : {last : Option Line} {op : ℕ} {first : ℤ} {o : OrBad After} → Kind last op first o → {a : After} → o ≡ Ok a → (m : List Line) → Lengthy m → Lengthy (listed a.closed ++ m)
 closed_lengthy bad e m h = absurd (ok_refused (sym e))
 closed_lengthy (leaves p f n) e m h = rw (← ok_is e) h
 closed_lengthy (sets p f g) e m h = rw (← ok_is e) h
 closed_lengthy (begins p f g) e m h = rw (← ok_is e) h
-closed_lengthy (closes p {l} {n} f g k) e m h = rw (← ok_is e) (go (settled_bytes l.at l.length (offset_of p) k) h)
+closed_lengthy (closes p {l} {n} f g k) e m h = rw (← ok_is e) (go h)
   where
-    go : (k : ℕ) × (n ≡ length_case.Bytes k) → Lengthy m → Lengthy (line_at l.at n ∷ m)
-    go b h zero i = b
-    go b h (suc j) i = h j (omega arith)
+    go : Lengthy m → Lengthy (line_at l.at (Some n) ∷ m)
+    go h zero i = (n, refl)
+    go h (suc j) i = h j (omega arith)
 
 lengthy : {s t : State} {found : List PlacedTriple} {closed : List Line} → Runs s found t closed → Lengthy closed
 lengthy none = λ i h. absurd (omega arith)
@@ -97,10 +85,10 @@ head_is e = cc
 pub no_head : {A : Type 0} {a : A} {l : List A} → ◌≡◌ {A = List A} (a ∷ l) [] → ⊥
 no_head e = let z : ◌≡◌ {A = ℕ} 0 1 = cc in omega arith
 
-pub some_is : {l m : Line} → maybe.Some l ≡ maybe.Some m → l ≡ m
+pub some_is : {l m : Line} → Some l ≡ Some m → l ≡ m
 some_is e = cc
 
-pub some_none : {l : Line} → maybe.Some l ≡ maybe.None → ⊥
+pub some_none : {l : Line} → Some l ≡ None → ⊥
 some_none e = let z : ◌≡◌ {A = ℕ} 0 1 = cc in omega arith
 
 -- ---- what becomes of a record that was emitted last, where these annotations follow and these records come of it
@@ -109,37 +97,37 @@ record Fate (l : Line) (later : List PlacedTriple) (all : List Line) : Type 0 wh
   others : List Line
   is : all ≡ first ∷ others
   at : first.at ≡ l.at
-  set : (n : ℕ) → given l.length later ≡ length_case.Bytes n → first.length ≡ length_case.Bytes n
-  due : given l.length later ≡ length_case.None → (r : Line) (after : List Line) → others ≡ r ∷ after → (offset_of l.at ≤ offset_of r.at) × (first.length ≡ length_case.Bytes (offset_of r.at - offset_of l.at))
-  left : given l.length later ≡ length_case.None → others ≡ [] → first.length ≡ length_case.None
+  set : (n : ℕ) → given l.length later ≡ Some n → first.length ≡ Some n
+  due : given l.length later ≡ None → (r : Line) (after : List Line) → others ≡ r ∷ after → (offset_of l.at ≤ offset_of r.at) × (first.length ≡ Some (offset_of r.at - offset_of l.at))
+  left : given l.length later ≡ None → others ≡ [] → first.length ≡ None
 
-pub settled_set : (from : Position) (n : Length) (to : ℕ) {m : Length} (k : ℕ) → settled from n to ≡ ok m → n ≡ length_case.Bytes k → m ≡ length_case.Bytes k
+pub settled_set : (from : Position) (n : Option ℕ) (to : ℕ) {m : ℕ} (k : ℕ) → settled from n to ≡ Ok m → n ≡ Some k → m ≡ k
 unfolding settled
 settled_set from n to k e f = ok_is (sym (rw f at e))
 
-pub settled_due : (from : Position) (n : Length) (to : ℕ) {m : Length} → settled from n to ≡ ok m → n ≡ length_case.None → (offset_of from ≤ to) × (m ≡ length_case.Bytes (to - offset_of from))
-unfolding settled ◌>>◌ require
+pub settled_due : (from : Position) (n : Option ℕ) (to : ℕ) {m : ℕ} → settled from n to ≡ Ok m → n ≡ None → (offset_of from ≤ to) × (m ≡ to - offset_of from)
+unfolding settled and_next require
 settled_due from n to {m} e f = go (leb (offset_of from) to) refl (rw f at e)
   where
-    go : (b : Bool) → leb (offset_of from) to ≡ b → ◌≡◌ {A = OrBad Length} (require b tt >> ok (length_case.Bytes (to - offset_of from))) (ok m) → (offset_of from ≤ to) × (m ≡ length_case.Bytes (to - offset_of from))
+    go : (b : Bool) → leb (offset_of from) to ≡ b → ◌≡◌ {A = OrBad ℕ} (require b tt >> Ok (to - offset_of from)) (Ok m) → (offset_of from ≤ to) × (m ≡ to - offset_of from)
     go true t g = (leb-true (offset_of from) to t, ok_is (sym g))
     go false t g = absurd (ok_refused (sym g))
 
 -- a record closed by an emission at p, before what becomes of the record that is emitted there
-closed_fate : (l : Line) (x : PlacedTriple) (later : List PlacedTriple) (p : Position) (n : Length) (o : Length) {all : List Line} → emits x.triple.opcode ≡ true → settled l.at l.length (offset_of p) ≡ ok n → Fate (line_at p o) later all → Fate l (x ∷ later) (line_at l.at n ∷ all)
+closed_fate : (l : Line) (x : PlacedTriple) (later : List PlacedTriple) (p : Position) (n : ℕ) (o : Option ℕ) {all : List Line} → emits x.triple.opcode ≡ true → settled l.at l.length (offset_of p) ≡ Ok n → Fate (line_at p o) later all → Fate l (x ∷ later) (line_at l.at (Some n) ∷ all)
 unfolding given
 closed_fate l x later p n o {all} e f r =
     record {
-      first = line_at l.at n;
+      first = line_at l.at (Some n);
       others = all;
       is = refl;
       at = refl;
-      set = λ k g. settled_set l.at l.length (offset_of p) k f (rw e at g);
+      set = λ k g. ap Some (settled_set l.at l.length (offset_of p) k f (rw e at g));
       due = λ g y after h.
           let d = settled_due l.at l.length (offset_of p) f (rw e at g) in
           let same : r.first ≡ y = head_is (sym r.is ∙ h) in
           let place : offset_of y.at ≡ offset_of p = ap (λ (q : Line). offset_of q.at) (sym same) ∙ ap offset_of r.at in
-          rw place d;
+          rw place (d.0, ap Some d.1);
       left = λ g h. absurd (no_head (sym r.is ∙ h));
     }
 
@@ -157,7 +145,7 @@ quiet_fate l m x later e g r =
     }
 
 -- by the kind of the turn: what becomes of l, where the last record before it is l
-turn_fate : (l : Line) (x : PlacedTriple) (later : List PlacedTriple) {last : MaybeLine} {o : OrBad After} → Kind last x.triple.opcode x.triple.first o → last ≡ maybe.Some l → {a : After} → o ≡ ok a → (all : List Line) → ((m : Line) → a.state.last ≡ maybe.Some m → Fate m later all) → Fate l (x ∷ later) (listed a.closed ++ all)
+turn_fate : (l : Line) (x : PlacedTriple) (later : List PlacedTriple) {last : Option Line} {o : OrBad After} → Kind last x.triple.opcode x.triple.first o → last ≡ Some l → {a : After} → o ≡ Ok a → (all : List Line) → ((m : Line) → a.state.last ≡ Some m → Fate m later all) → Fate l (x ∷ later) (listed a.closed ++ all)
 unfolding given
 turn_fate l x later bad g e all h = absurd (ok_refused (sym e))
 turn_fate l x later (leaves p f n) g {a} e all h =
@@ -166,11 +154,11 @@ turn_fate l x later (leaves p f n) g {a} e all h =
 turn_fate l x later (sets p {l = m} f k) g {a} e all h =
     let same : m ≡ l = some_is (sym k ∙ g) in
     let quiet : listed a.closed ++ all ≡ all = rw (← ok_is e) in
-    rw quiet (quiet_fate l (line_at l.at (length_case.Bytes (nat_abs x.triple.first))) x later refl (rw f) (h _ (rw (← ok_is e, same))))
+    rw quiet (quiet_fate l (line_at l.at (Some (nat_abs x.triple.first))) x later refl (rw f) (h _ (rw (← ok_is e, same))))
 turn_fate l x later (begins p f k) g e all h = absurd (some_none (sym g ∙ k))
 turn_fate l x later (closes p {l = m} {n} f k s) g {a} e all h =
     let same : m ≡ l = some_is (sym k ∙ g) in
-    let done : listed a.closed ++ all ≡ line_at l.at n ∷ all = rw (← ok_is e, same) in
+    let done : listed a.closed ++ all ≡ line_at l.at (Some n) ∷ all = rw (← ok_is e, same) in
     rw done (closed_fate l x later p n (own x.triple.opcode x.triple.first) f (rw same at s) (h _ (rw (← ok_is e))))
 
 last_fate : (l : Line) → Fate l [] (l ∷ [])
@@ -186,8 +174,8 @@ last_fate l =
       left = λ h k. h;
     }
 
-fate : {s t : State} {found : List PlacedTriple} {closed : List Line} → Runs s found t closed → (l : Line) → s.last ≡ maybe.Some l → Fate l found (closed ++ listed t.last)
-fate (none {s}) l g = subst (λ (m : MaybeLine). Fate l [] (listed m)) (sym g) (last_fate l)
+fate : {s t : State} {found : List PlacedTriple} {closed : List Line} → Runs s found t closed → (l : Line) → s.last ≡ Some l → Fate l found (closed ++ listed t.last)
+fate (none {s}) l g = subst (λ (m : Option Line). Fate l [] (listed m)) (sym g) (last_fate l)
 fate (more {s} {t} {x} {later} {a} {lines} e r) l g =
     subst (λ (all : List Line). Fate l (x ∷ later) all) (sym (append_assoc (listed a.closed) lines (listed t.last)))
     (turn_fate l x later (turned s x e) g refl (lines ++ listed t.last) (λ m k. fate r m k))
@@ -199,7 +187,7 @@ tail_is e = cc
 record First (s t : State) (x : PlacedTriple) (later : List PlacedTriple) (closed : List Line) : Type 0 where
   after : After
   lines : List Line
-  turns : turning s x.triple ≡ ok after
+  turns : turning s x.triple ≡ Ok after
   rest : Runs after.state later t lines
   are : closed ≡ listed after.closed ++ lines
 
@@ -209,7 +197,7 @@ first_of (more {s} {t} {a} {lines} e r) x later f =
     record {
       after = a;
       lines = lines;
-      turns = subst (λ (y : PlacedTriple). turning s y.triple ≡ ok a) (head_is f) e;
+      turns = subst (λ (y : PlacedTriple). turning s y.triple ≡ Ok a) (head_is f) e;
       rest = subst (λ (l : List PlacedTriple). Runs a.state l t lines) (tail_is f) r;
       are = refl;
     }
@@ -237,7 +225,7 @@ split (x ∷ before) {s} {t} {later} {closed} r =
     }
 
 -- ---- the record that an annotation emits
-emitted : {last : MaybeLine} {op : ℕ} {first : ℤ} {o : OrBad After} → Kind last op first o → emits op ≡ true → {a : After} → o ≡ ok a → (p : Position) × ((a.state.last ≡ maybe.Some (line_at p (own op first))) × (held a.closed ≡ held last))
+emitted : {last : Option Line} {op : ℕ} {first : ℤ} {o : OrBad After} → Kind last op first o → emits op ≡ true → {a : After} → o ≡ Ok a → (p : Position) × ((a.state.last ≡ Some (line_at p (own op first))) × (held a.closed ≡ held last))
 emitted bad f e = absurd (ok_refused (sym e))
 emitted (leaves p g n) f e = absurd (true≢false (sym f ∙ g))
 emitted (sets p g h) f e = absurd (true≢false (sym (rw g at f)))
@@ -300,14 +288,14 @@ module _ (before later : List PlacedTriple) (x : PlacedTriple) (lines : List Lin
   here =
       ap (λ (n : ℕ). line_of lines n) (sym d.many) ∙ ap (λ (l : List Line). line_of l (length d.front)) all ∙ record_at_lem d.front b.first b.others
 
-  due : (o : List Line) → b.others ≡ o → given (own_length x.triple) later ≡ length_case.None → suc i < length lines → (offset_of (line_of lines i).at ≤ offset_of (line_of lines (suc i)).at) × ((line_of lines i).length ≡ length_case.Bytes (offset_of (line_of lines (suc i)).at - offset_of (line_of lines i).at))
+  due : (o : List Line) → b.others ≡ o → given (own_length x.triple) later ≡ None → suc i < length lines → (offset_of (line_of lines i).at ≤ offset_of (line_of lines (suc i)).at) × ((line_of lines i).length ≡ Some (offset_of (line_of lines (suc i)).at - offset_of (line_of lines i).at))
   due [] o g h = absurd (omega (arith, long, ap length o))
   due (r ∷ after) o g h =
       let next : line_of lines (suc i) ≡ r = ap (λ (n : ℕ). line_of lines (suc n)) (sym d.many) ∙ ap (λ (l : List Line). line_of l (suc (length d.front))) all ∙ record_after d.front b.first b.others r after o in
       let place : offset_of (line_of lines i).at ≡ offset_of d.place = ap (λ (l : Line). offset_of l.at) here ∙ ap offset_of b.at in
       let place' : offset_of (line_of lines (suc i)).at ≡ offset_of r.at = ap (λ (l : Line). offset_of l.at) next in
       let q = b.due g r after o in
-      (omega (arith, q.0), ap (λ (l : Line). l.length) here ∙ q.1 ∙ ap length_case.Bytes (omega arith))
+      (omega (arith, q.0), ap (λ (l : Line). l.length) here ∙ q.1 ∙ ap Some (omega arith))
 
   has_length : HasLength before later x lines
   has_length =

@@ -8,7 +8,8 @@ use native.Mathlib.Omega.{arith}
 use borrow.Author.Tests.{le-leb, lt-leb, leb-true, leb-false}
 use lib.Dec.{leb}
 use lib.ListN.{length}
-use Rattle.outcome.specs.Outcome.{Outcome, ok, refused, ◌>>=◌, ◌>>◌, require, raise}
+use Rattle.std.specs.Prelude.{Result, Ok, Err}
+use Rattle.outcome.specs.Outcome.{and_next, and_then, ◌>>=◌, ◌>>◌, require, raise}
 use Rattle.outcome.proofs.OutcomeLaws.{ok_is, ok_refused, refused_is}
 use Rattle.numbers.specs.Refusal.{Stop}
 use Rattle.annotations.specs.Step.{PlacedTriple}
@@ -24,18 +25,18 @@ use Rattle.lines.specs.Lines.{program, bad_line, lines_from, needed, running}
 use Rattle.lines_statements.specs.Runs.{Runs, none, more, RunsTo, StopsAt, Ended, RunExactly}
 
 -- ---- from runs to the program
-pub runs_program : {s t : State} {found : List PlacedTriple} {closed : List Line} → Runs s found t closed → (i : ℕ) → program s i found ≡ ok (closed ++ listed t.last)
-unfolding program ◌>>=◌ raise
+pub runs_program : {s t : State} {found : List PlacedTriple} {closed : List Line} → Runs s found t closed → (i : ℕ) → program s i found ≡ Ok (closed ++ listed t.last)
+unfolding program and_then raise
 runs_program none i = refl
-runs_program (more {a} {lines} e r) i = rw (e, runs_program r (suc i)) (ap ok (sym (append_assoc (listed a.closed) lines _)))
+runs_program (more {a} {lines} e r) i = rw (e, runs_program r (suc i)) (ap Ok (sym (append_assoc (listed a.closed) lines _)))
 
-pub stops_program : {s t : State} {before : List PlacedTriple} {closed : List Line} → Runs s before t closed → (x : PlacedTriple) (later : List PlacedTriple) → turning t x.triple ≡ refused tt → (i : ℕ) → program s i (before ++ x ∷ later) ≡ refused (i + length before)
-unfolding program ◌>>=◌ raise
-stops_program none x later e i = rw e (ap refused (omega arith))
-stops_program (more {later = rest} f r) x later e i = rw (f, stops_program r x later e (suc i)) (ap refused (omega arith))
+pub stops_program : {s t : State} {before : List PlacedTriple} {closed : List Line} → Runs s before t closed → (x : PlacedTriple) (later : List PlacedTriple) → turning t x.triple ≡ Err tt → (i : ℕ) → program s i (before ++ x ∷ later) ≡ Err (i + length before)
+unfolding program and_then raise
+stops_program none x later e i = rw e (ap Err (omega arith))
+stops_program (more {later = rest} f r) x later e i = rw (f, stops_program r x later e (suc i)) (ap Err (omega arith))
 
 -- ---- from the program to runs
-more_lines : {s : State} {x : PlacedTriple} {later : List PlacedTriple} {a : After} {m : List Line} → turning s x.triple ≡ ok a → RunsTo a.state later m → RunsTo s (x ∷ later) (listed a.closed ++ m)
+more_lines : {s : State} {x : PlacedTriple} {later : List PlacedTriple} {a : After} {m : List Line} → turning s x.triple ≡ Ok a → RunsTo a.state later m → RunsTo s (x ∷ later) (listed a.closed ++ m)
 more_lines {a} e r =
     record {
       state = r.state;
@@ -44,7 +45,7 @@ more_lines {a} e r =
       are = ap (λ (l : List Line). listed a.closed ++ l) r.are ∙ sym (append_assoc (listed a.closed) r.closed (listed r.state.last));
     }
 
-later_stops : {s : State} {x : PlacedTriple} {later : List PlacedTriple} {a : After} {i : ℕ} → turning s x.triple ≡ ok a → StopsAt a.state later i → StopsAt s (x ∷ later) (suc i)
+later_stops : {s : State} {x : PlacedTriple} {later : List PlacedTriple} {a : After} {i : ℕ} → turning s x.triple ≡ Ok a → StopsAt a.state later i → StopsAt s (x ∷ later) (suc i)
 later_stops {x} {a} e r =
     record {
       before = x ∷ r.before;
@@ -58,46 +59,46 @@ later_stops {x} {a} e r =
       stops = r.stops;
     }
 
-pub program_runs : (found : List PlacedTriple) (s : State) (i : ℕ) {lines : List Line} → program s i found ≡ ok lines → RunsTo s found lines
-unfolding program ◌>>=◌ raise
+pub program_runs : (found : List PlacedTriple) (s : State) (i : ℕ) {lines : List Line} → program s i found ≡ Ok lines → RunsTo s found lines
+unfolding program and_then raise
 program_runs [] s i e = record { state = s; closed = []; runs = none; are = ok_is (sym e) }
 program_runs (x ∷ later) s i {lines} e = go (λ t m g. program_runs later t (suc i) g) (turning s x.triple) refl e
   where
-    go : ((t : State) (m : List Line) → program t (suc i) later ≡ ok m → RunsTo t later m) → (o : OrBad After) → turning s x.triple ≡ o → (raise (λ _. i) o >>= λ a. (program a.state (suc i) later >>= λ m. ok (listed a.closed ++ m))) ≡ ok lines → RunsTo s (x ∷ later) lines
-    go ih (refused why) f h = absurd (ok_refused (sym h))
-    go ih (ok a) f h = then (program a.state (suc i) later) refl h
+    go : ((t : State) (m : List Line) → program t (suc i) later ≡ Ok m → RunsTo t later m) → (o : OrBad After) → turning s x.triple ≡ o → (raise (λ _. i) o >>= λ a. (program a.state (suc i) later >>= λ m. Ok (listed a.closed ++ m))) ≡ Ok lines → RunsTo s (x ∷ later) lines
+    go ih (Err why) f h = absurd (ok_refused (sym h))
+    go ih (Ok a) f h = then (program a.state (suc i) later) refl h
       where
-        then : (p : Outcome ℕ (List Line)) → program a.state (suc i) later ≡ p → (p >>= λ m. ok (listed a.closed ++ m)) ≡ ok lines → RunsTo s (x ∷ later) lines
-        then (refused j) g k = absurd (ok_refused (sym k))
-        then (ok m) g k = rw (ok_is (sym k)) (more_lines f (ih a.state m g))
+        then : (p : Result (List Line) ℕ) → program a.state (suc i) later ≡ p → (p >>= λ m. Ok (listed a.closed ++ m)) ≡ Ok lines → RunsTo s (x ∷ later) lines
+        then (Err j) g k = absurd (ok_refused (sym k))
+        then (Ok m) g k = rw (ok_is (sym k)) (more_lines f (ih a.state m g))
 
 -- (the program counts from i)
-pub program_stops : (found : List PlacedTriple) (s : State) (i : ℕ) {j : ℕ} → program s i found ≡ refused j → (n : ℕ) × ((i + n ≡ j) × StopsAt s found n)
-unfolding program ◌>>=◌ raise
+pub program_stops : (found : List PlacedTriple) (s : State) (i : ℕ) {j : ℕ} → program s i found ≡ Err j → (n : ℕ) × ((i + n ≡ j) × StopsAt s found n)
+unfolding program and_then raise
 program_stops [] s i e = absurd (ok_refused e)
 program_stops (x ∷ later) s i {j} e = go (λ t l g. program_stops later t (suc i) g) (turning s x.triple) refl e
   where
-    go : ((t : State) (l : ℕ) → program t (suc i) later ≡ refused l → (n : ℕ) × ((suc i + n ≡ l) × StopsAt t later n)) → (o : OrBad After) → turning s x.triple ≡ o → (raise (λ _. i) o >>= λ a. (program a.state (suc i) later >>= λ m. ok (listed a.closed ++ m))) ≡ refused j → (n : ℕ) × ((i + n ≡ j) × StopsAt s (x ∷ later) n)
-    go ih (refused tt) f h =
+    go : ((t : State) (l : ℕ) → program t (suc i) later ≡ Err l → (n : ℕ) × ((suc i + n ≡ l) × StopsAt t later n)) → (o : OrBad After) → turning s x.triple ≡ o → (raise (λ _. i) o >>= λ a. (program a.state (suc i) later >>= λ m. Ok (listed a.closed ++ m))) ≡ Err j → (n : ℕ) × ((i + n ≡ j) × StopsAt s (x ∷ later) n)
+    go ih (Err tt) f h =
         (0, (omega (arith, refused_is h), record { before = []; next = x; later = later; all = refl; index = refl; state = s; closed = []; runs = none; stops = f }))
-    go ih (ok a) f h = then (program a.state (suc i) later) refl h
+    go ih (Ok a) f h = then (program a.state (suc i) later) refl h
       where
-        then : (p : Outcome ℕ (List Line)) → program a.state (suc i) later ≡ p → (p >>= λ m. ok (listed a.closed ++ m)) ≡ refused j → (n : ℕ) × ((i + n ≡ j) × StopsAt s (x ∷ later) n)
-        then (ok m) g k = absurd (ok_refused k)
-        then (refused l) g k =
+        then : (p : Result (List Line) ℕ) → program a.state (suc i) later ≡ p → (p >>= λ m. Ok (listed a.closed ++ m)) ≡ Err j → (n : ℕ) × ((i + n ≡ j) × StopsAt s (x ∷ later) n)
+        then (Ok m) g k = absurd (ok_refused k)
+        then (Err l) g k =
             let r = ih a.state l g in
             (suc r.0, (omega (arith, r.1.0, refused_is k), later_stops f r.1.1))
 
 -- ---- the program and the closing step give the answer
-abbrev pub answer : Outcome ℕ (List Line) → Outcome Stop ℕ → ℕ → Outcome DecodeStop (List Line)
+abbrev pub answer : Result (List Line) ℕ → Result ℕ Stop → ℕ → Result (List Line) DecodeStop
 answer p last room =
-    ((raise bad_line p >>= λ lines. raise with_place last >> ok lines) >>= λ lines. require (leb (entries_each * length lines) room) (no_room_for (needed (length lines))) >> ok lines)
+    ((raise bad_line p >>= λ lines. raise with_place last >> Ok lines) >>= λ lines. require (leb (entries_each * length lines) room) (no_room_for (needed (length lines))) >> Ok lines)
 
 module _ (s : List ℕ) (room : ℕ) where
-  abbrev all : Outcome ℕ (List Line)
+  abbrev all : Result (List Line) ℕ
   all = program start 0 (decode_all s).found
 
-  abbrev closing : Outcome Stop ℕ
+  abbrev closing : Result ℕ Stop
   closing = (decode_all s).last
 
   pub is_answer : running s room ≡ answer all closing room
@@ -105,13 +106,13 @@ module _ (s : List ℕ) (room : ℕ) where
   is_answer = refl
 
 -- what an answer says of the two
-number_of : {A : Type 0} {x y : DecodeStop} → ◌≡◌ {A = Outcome DecodeStop A} (refused x) (refused y) → x.refusal.number ≡ y.refusal.number
+number_of : {A : Type 0} {x y : DecodeStop} → ◌≡◌ {A = Result A DecodeStop} (Err x) (Err y) → x.refusal.number ≡ y.refusal.number
 number_of e = ap (λ (d : DecodeStop). d.refusal.number) (refused_is e)
 
-value_of : {A : Type 0} {x y : DecodeStop} → ◌≡◌ {A = Outcome DecodeStop A} (refused x) (refused y) → x.refusal.value ≡ y.refusal.value
+value_of : {A : Type 0} {x y : DecodeStop} → ◌≡◌ {A = Result A DecodeStop} (Err x) (Err y) → x.refusal.value ≡ y.refusal.value
 value_of e = ap (λ (d : DecodeStop). d.refusal.value) (refused_is e)
 
-placed_not : {A B : Type 0} {x y : DecodeStop} {place : ℕ} → ◌≡◌ {A = Outcome DecodeStop A} (refused x) (refused y) → x.place ≡ some place → y.place ≡ none → B
+placed_not : {A B : Type 0} {x y : DecodeStop} {place : ℕ} → ◌≡◌ {A = Result A DecodeStop} (Err x) (Err y) → x.place ≡ some place → y.place ≡ none → B
 placed_not {x} {y} {place} e f g =
     let h : x ≡ y = refused_is e in
     let z : ◌≡◌ {A = ℕ} 0 1 = cc in
@@ -119,61 +120,61 @@ placed_not {x} {y} {place} e f g =
 
 module _ (room : ℕ) where
   -- 25 is the program's, and comes wherever that is refused
-  bad_is : (p : Outcome ℕ (List Line)) (last : Outcome Stop ℕ) {i : ℕ} → answer p last room ≡ refused (bad_line i) → p ≡ refused i
-  unfolding ◌>>=◌ ◌>>◌ require raise
-  bad_is (refused j) last e = ap refused (value_of e)
-  bad_is (ok lines) (refused why) e = placed_not e refl refl
-  bad_is (ok lines) (ok place) e = go (leb (entries_each * length lines) room) e
+  bad_is : (p : Result (List Line) ℕ) (last : Result ℕ Stop) {i : ℕ} → answer p last room ≡ Err (bad_line i) → p ≡ Err i
+  unfolding and_then and_next require raise
+  bad_is (Err j) last e = ap Err (value_of e)
+  bad_is (Ok lines) (Err why) e = placed_not e refl refl
+  bad_is (Ok lines) (Ok place) e = go (leb (entries_each * length lines) room) e
     where
-      go : (b : Bool) {i : ℕ} → (require b (no_room_for (needed (length lines))) >> ok lines) ≡ refused (bad_line i) → ok lines ≡ refused i
+      go : (b : Bool) {i : ℕ} → (require b (no_room_for (needed (length lines))) >> Ok lines) ≡ Err (bad_line i) → Ok lines ≡ Err i
       go true f = absurd (ok_refused f)
       go false f = absurd (omega (arith, number_of f))
 
-  decoder_is : (p : Outcome ℕ (List Line)) (last : Outcome Stop ℕ) {why : Stop} → answer p last room ≡ refused (with_place why) → ((lines : List Line) × (p ≡ ok lines)) × (last ≡ refused why)
-  unfolding ◌>>=◌ ◌>>◌ require raise
-  decoder_is (refused j) last e = placed_not (sym e) refl refl
-  decoder_is (ok lines) (refused w) {why} e =
+  decoder_is : (p : Result (List Line) ℕ) (last : Result ℕ Stop) {why : Stop} → answer p last room ≡ Err (with_place why) → ((lines : List Line) × (p ≡ Ok lines)) × (last ≡ Err why)
+  unfolding and_then and_next require raise
+  decoder_is (Err j) last e = placed_not (sym e) refl refl
+  decoder_is (Ok lines) (Err w) {why} e =
       let h : with_place w ≡ with_place why = refused_is e in
       let r : w.refusal ≡ why.refusal = ap (λ (d : DecodeStop). d.refusal) h in
       let o : some w.place ≡ some why.place = ap (λ (d : DecodeStop). d.place) h in
       let q : w.place ≡ why.place = cc in
-      ((lines, refl), λ i. refused (record { refusal = r i; place = q i }))
-  decoder_is (ok lines) (ok place) e = go (leb (entries_each * length lines) room) e
+      ((lines, refl), λ i. Err (record { refusal = r i; place = q i }))
+  decoder_is (Ok lines) (Ok place) e = go (leb (entries_each * length lines) room) e
     where
-      go : (b : Bool) {why : Stop} → (require b (no_room_for (needed (length lines))) >> ok lines) ≡ refused (with_place why) → ((l : List Line) × (◌≡◌ {A = Outcome ℕ (List Line)} (ok lines) (ok l))) × (◌≡◌ {A = Outcome Stop ℕ} (ok place) (refused why))
+      go : (b : Bool) {why : Stop} → (require b (no_room_for (needed (length lines))) >> Ok lines) ≡ Err (with_place why) → ((l : List Line) × (◌≡◌ {A = Result (List Line) ℕ} (Ok lines) (Ok l))) × (◌≡◌ {A = Result ℕ Stop} (Ok place) (Err why))
       go true f = absurd (ok_refused f)
       go false f = placed_not (sym f) refl refl
 
-  no_room_is : (p : Outcome ℕ (List Line)) (last : Outcome Stop ℕ) {n : ℕ} → answer p last room ≡ refused (no_room_for n) → (lines : List Line) × ((p ≡ ok lines) × (Ended last × ((room < entries_each * length lines) × (n ≡ needed (length lines)))))
-  unfolding ◌>>=◌ ◌>>◌ require raise
-  no_room_is (refused j) last e = absurd (omega (arith, number_of e))
-  no_room_is (ok lines) (refused why) e = placed_not e refl refl
-  no_room_is (ok lines) (ok place) {n} e = go (leb (entries_each * length lines) room) refl e
+  no_room_is : (p : Result (List Line) ℕ) (last : Result ℕ Stop) {n : ℕ} → answer p last room ≡ Err (no_room_for n) → (lines : List Line) × ((p ≡ Ok lines) × (Ended last × ((room < entries_each * length lines) × (n ≡ needed (length lines)))))
+  unfolding and_then and_next require raise
+  no_room_is (Err j) last e = absurd (omega (arith, number_of e))
+  no_room_is (Ok lines) (Err why) e = placed_not e refl refl
+  no_room_is (Ok lines) (Ok place) {n} e = go (leb (entries_each * length lines) room) refl e
     where
-      go : (b : Bool) → leb (entries_each * length lines) room ≡ b → (require b (no_room_for (needed (length lines))) >> ok lines) ≡ refused (no_room_for n) → (l : List Line) × ((◌≡◌ {A = Outcome ℕ (List Line)} (ok lines) (ok l)) × (Ended (ok place) × ((room < entries_each * length l) × (n ≡ needed (length l)))))
+      go : (b : Bool) → leb (entries_each * length lines) room ≡ b → (require b (no_room_for (needed (length lines))) >> Ok lines) ≡ Err (no_room_for n) → (l : List Line) × ((◌≡◌ {A = Result (List Line) ℕ} (Ok lines) (Ok l)) × (Ended (Ok place) × ((room < entries_each * length l) × (n ≡ needed (length l)))))
       go true t f = absurd (ok_refused f)
       go false t f =
           (lines, (refl, ((place, refl), (leb-false (entries_each * length lines) room t, sym (value_of f)))))
 
-  accepted_is : (p : Outcome ℕ (List Line)) (last : Outcome Stop ℕ) {lines : List Line} → answer p last room ≡ ok lines → (p ≡ ok lines) × (Ended last × (entries_each * length lines ≤ room))
-  unfolding ◌>>=◌ ◌>>◌ require raise
-  accepted_is (refused j) last e = absurd (ok_refused (sym e))
-  accepted_is (ok m) (refused why) e = absurd (ok_refused (sym e))
-  accepted_is (ok m) (ok place) {lines} e = go (leb (entries_each * length m) room) refl e
+  accepted_is : (p : Result (List Line) ℕ) (last : Result ℕ Stop) {lines : List Line} → answer p last room ≡ Ok lines → (p ≡ Ok lines) × (Ended last × (entries_each * length lines ≤ room))
+  unfolding and_then and_next require raise
+  accepted_is (Err j) last e = absurd (ok_refused (sym e))
+  accepted_is (Ok m) (Err why) e = absurd (ok_refused (sym e))
+  accepted_is (Ok m) (Ok place) {lines} e = go (leb (entries_each * length m) room) refl e
     where
-      go : (b : Bool) → leb (entries_each * length m) room ≡ b → (require b (no_room_for (needed (length m))) >> ok m) ≡ ok lines → (◌≡◌ {A = Outcome ℕ (List Line)} (ok m) (ok lines)) × (Ended (ok place) × (entries_each * length lines ≤ room))
-      go true t f = let same : m ≡ lines = ok_is f in (ap ok same, ((place, refl), rw same at (leb-true (entries_each * length m) room t)))
+      go : (b : Bool) → leb (entries_each * length m) room ≡ b → (require b (no_room_for (needed (length m))) >> Ok m) ≡ Ok lines → (◌≡◌ {A = Result (List Line) ℕ} (Ok m) (Ok lines)) × (Ended (Ok place) × (entries_each * length lines ≤ room))
+      go true t f = let same : m ≡ lines = ok_is f in (ap Ok same, ((place, refl), rw same at (leb-true (entries_each * length m) room t)))
       go false t f = absurd (ok_refused (sym f))
 
-ran : {found : List PlacedTriple} {lines : List Line} → RunsTo start found lines → program start 0 found ≡ ok lines
-ran x = runs_program x.runs 0 ∙ ap ok (sym x.are)
+ran : {found : List PlacedTriple} {lines : List Line} → RunsTo start found lines → program start 0 found ≡ Ok lines
+ran x = runs_program x.runs 0 ∙ ap Ok (sym x.are)
 
-stopped : {found : List PlacedTriple} {i : ℕ} → StopsAt start found i → program start 0 found ≡ refused i
+stopped : {found : List PlacedTriple} {i : ℕ} → StopsAt start found i → program start 0 found ≡ Err i
 stopped x =
-    rw x.all (stops_program x.runs x.next x.later x.stops 0 ∙ ap refused (omega (arith, x.index)))
+    rw x.all (stops_program x.runs x.next x.later x.stops 0 ∙ ap Err (omega (arith, x.index)))
 
 pub run_exactly : RunExactly
-unfolding ◌>>=◌ ◌>>◌ require raise
+unfolding and_then and_next require raise
 run_exactly =
     record {
       bad = λ s room i. (

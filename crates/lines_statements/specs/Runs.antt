@@ -1,6 +1,5 @@
 -- Annotations run one after the other, and when each answer of a line program comes. proofs/Runs.antt proves it.
-use Rattle.std.specs.Prelude.{◌≡◌, ◌↔◌, List, [], ◌∷◌, ◌++◌, ℕ, ◌*◌, ◌≤◌, ◌<◌, length}
-use Rattle.outcome.specs.Outcome.{Outcome, ok, refused}
+use Rattle.std.specs.Prelude.{◌≡◌, ◌↔◌, List, [], ◌∷◌, ◌++◌, ℕ, ◌*◌, ◌≤◌, ◌<◌, length, Result, Ok, Err}
 use Rattle.numbers.specs.Refusal.{Stop}
 use Rattle.annotations.specs.Step.{PlacedTriple}
 use Rattle.decode.specs.Decode.{decode_all, with_place, no_room_for}
@@ -16,7 +15,7 @@ use Rattle.lines.specs.Lines.{bad_line, needed, running}
 pub data Runs : State → List PlacedTriple → State → List Line → Type 0 where
   none : {s : State} → Runs s [] s []
   more : {s t : State} {x : PlacedTriple} {later : List PlacedTriple} {a : After} {lines : List Line}
-      → turning s x.triple ≡ ok a → Runs a.state later t lines
+      → turning s x.triple ≡ Ok a → Runs a.state later t lines
       → Runs s (x ∷ later) t (listed a.closed ++ lines)
 
 -- all of them run, and these are the records: those that were closed, and the last one
@@ -36,19 +35,19 @@ pub record StopsAt (from : State) (found : List PlacedTriple) (i : ℕ) : Type 0
   pub state : State
   pub closed : List Line
   pub runs : Runs from before state closed
-  pub stops : turning state next.triple ≡ refused tt
+  pub stops : turning state next.triple ≡ Err tt
 
 -- decoding comes to the end
-abbrev pub Ended : Outcome Stop ℕ → Type 0
-Ended last = (place : ℕ) × (last ≡ ok place)
+abbrev pub Ended : Result ℕ Stop → Type 0
+Ended last = (place : ℕ) × (last ≡ Ok place)
 
 -- "Whichever refusal comes first in the bytes wins; 10 last": each answer exactly under its condition
 pub record RunExactly : Type 0 where
-  pub bad : (s : List ℕ) (room i : ℕ) → (running s room ≡ refused (bad_line i)) ↔ StopsAt start (decode_all s).found i
-  pub decoder : (s : List ℕ) (room : ℕ) (why : Stop) → (running s room ≡ refused (with_place why))
-      ↔ (((lines : List Line) × RunsTo start (decode_all s).found lines) × ((decode_all s).last ≡ refused why))
-  pub no_room : (s : List ℕ) (room n : ℕ) → (running s room ≡ refused (no_room_for n))
+  pub bad : (s : List ℕ) (room i : ℕ) → (running s room ≡ Err (bad_line i)) ↔ StopsAt start (decode_all s).found i
+  pub decoder : (s : List ℕ) (room : ℕ) (why : Stop) → (running s room ≡ Err (with_place why))
+      ↔ (((lines : List Line) × RunsTo start (decode_all s).found lines) × ((decode_all s).last ≡ Err why))
+  pub no_room : (s : List ℕ) (room n : ℕ) → (running s room ≡ Err (no_room_for n))
       ↔ ((lines : List Line) × (RunsTo start (decode_all s).found lines × Ended (decode_all s).last
       × (room < entries_each * length lines) × (n ≡ needed (length lines))))
-  pub accepted : (s : List ℕ) (room : ℕ) (lines : List Line) → (running s room ≡ ok lines)
+  pub accepted : (s : List ℕ) (room : ℕ) (lines : List Line) → (running s room ≡ Ok lines)
       ↔ (RunsTo start (decode_all s).found lines × Ended (decode_all s).last × (entries_each * length lines ≤ room))

@@ -10,7 +10,8 @@ use borrow.Author.Tests.{le-leb, lt-leb, leb-true}
 use lib.Dec.{leb}
 use lib.ListN.{length, take, length-append}
 use lib.Seq.{sets, length-sets, length-take-le}
-use Rattle.outcome.specs.Outcome.{Outcome, ok, refused, ◌>>=◌}
+use Rattle.std.specs.Prelude.{Result, Ok, Err}
+use Rattle.outcome.specs.Outcome.{and_then, raise}
 use Rattle.outcome.specs.Refusal as paper
 use Rattle.outcome.proofs.OutcomeLaws.{by_test, came_by, ok_is}
 use Rattle.outcome.specs.Store.{written}
@@ -19,23 +20,19 @@ use Rattle.store.proofs.SetsLaws.{sets_append}
 use Rattle.store.proofs.PutLaws.{put_first}
 use Rattle.parse_buffer.specs.Bytes.{File}
 use Rattle.listing_text.specs.Text.{refusal_text}
-use Rattle.listing_whole.specs.Whole.{list_refusal_in, listable}
-use Rattle.listing_whole.specs.Inner.{judged_in, why_not, Judges}
+use Rattle.listing_whole.specs.Whole.{list_refusal_in, told, listable}
+use Rattle.listing_whole.specs.Inner.{Judges}
 use Rattle.listing_whole.proofs.WholeLaws.{whole_is, whole_at, refused_whole}
 use Rattle.listing_whole.specs.declared.refusal.ListRefusal.{ListRefusal}
 use Rattle.listing_whole.specs.declared.Listable.{Listable}
-use Rattle.listing_whole.specs.declared.Judged.{Judged}
-use Rattle.listing_whole.specs.declared.Judged.TheVariants as judged
 use Rattle.listing_line.specs.Line.{line_at}
 use Rattle.listing.specs.Listing.{lines_from, line_of, place_of, most, lines_in, fitting, text_of, part_in, part_of}
-use Rattle.listing.specs.Promises.{listed_in, Lists, Refuses}
+use Rattle.listing.specs.Promises.{Lists, Refuses}
 use Rattle.listing.specs.Inner.{Writes}
 use Rattle.listing.proofs.PlaceLaws.{place_end}
 use Rattle.listing.specs.declared.place.Place.{Place}
 use Rattle.listing.specs.declared.place.Place.TheVariants.{End}
 use Rattle.listing.specs.declared.Part.{Part}
-use Rattle.listing.specs.declared.Listed.{Listed}
-use Rattle.listing.specs.declared.Listed.TheVariants as listed
 
 -- ---- the most lines that fit
 module _ (room : ℕ) (line : ℕ → List ℕ) (from : ℕ) where
@@ -149,19 +146,19 @@ module _ (f : File) (len count from : ℕ) {i at : ℕ} {out₀ out : List ℕ} 
 pub ruleset write_cases = (so_none, so_more, write_stops, write_ends)
 
 -- ---- `list`
-module _ {f : File} {len : ℕ} {r : Judged} (p : Judges f len r) where
-  pub list_refused : {why w : ListRefusal} (place : Place) (out : List ℕ) → r ≡ judged.Refused why → w ≡ why_not r → Lists f len place out (listed.Refused w) out
-  unfolding fitting part_of written judged_in listed_in ◌>>=◌
-  list_refused {why} place out e g =
-      let same : listable f len ≡ refused (list_refusal_in why) = refused_whole f len (sym p.answer ∙ ap judged_in e) in
-      record { answer = rw (g, e, same); after = rw same }
+module _ {f : File} {len : ℕ} {r : Result Listable ListRefusal} (p : Judges f len r) where
+  pub list_refused : {why : ListRefusal} (place : Place) (out : List ℕ) → r ≡ Err why → Lists f len place out (Err why) out
+  unfolding fitting part_of written raise and_then
+  list_refused {why} place out e =
+      let same : listable f len ≡ Err (list_refusal_in why) = refused_whole f len (sym p.answer ∙ ap told e) in
+      record { answer = rw same; after = rw same }
 
-  pub list_fine : {s : Listable} {part : Part} (place : Place) {line : ℕ} {out out' : List ℕ} → r ≡ judged.Listable s → line ≡ line_of s.count place → Writes f len (lines_in f len s.count line (length out)) out part out' → Lists f len place out (listed.Part part) out'
-  unfolding fitting part_of written listed_in ◌>>=◌
+  pub list_fine : {s : Listable} {part : Part} (place : Place) {line : ℕ} {out out' : List ℕ} → r ≡ Ok s → line ≡ line_of s.count place → Writes f len (lines_in f len s.count line (length out)) out part out' → Lists f len place out (Ok part) out'
+  unfolding fitting part_of written raise and_then
   list_fine {s} place e l w =
       let at = whole_at f len (whole_is p e) in
       record {
-        answer = ap ok w.answer ∙ rw (at.listable, l);
+        answer = ap Ok w.answer ∙ rw (at.listable, l);
         after = w.after ∙ rw (at.listable, l);
       }
 
@@ -195,15 +192,15 @@ module _ {why : paper.Refusal} {number value : ℕ} (a : number ≡ why.number) 
 pub ruleset refusal_cases = (refusal_no_room, refusal_put)
 
 -- ---- the answer counts bytes of the buffer: what a caller that takes these needs
-written_ok : {E A B : Type 0} {o : Outcome E A} {a : A} (entries : A → List B) (store : List B) → o ≡ ok a → written o entries store ≡ sets store 0 (entries a)
+written_ok : {E A B : Type 0} {o : Result A E} {a : A} (entries : A → List B) (store : List B) → o ≡ Ok a → written o entries store ≡ sets store 0 (entries a)
 unfolding written
 written_ok entries store e = rw e
 
-module _ {f : File} {len : ℕ} {place : Place} {out out' : List ℕ} {r : Listed} {p : Part} (l : Lists f len place out r out') (e : r ≡ listed.Part p) where
+module _ {f : File} {len : ℕ} {place : Place} {out out' : List ℕ} {r : Result Part ListRefusal} {p : Part} (l : Lists f len place out r out') (e : r ≡ Ok p) where
   pub part_within : p.bytes ≤ length out'
-  unfolding part_of fitting listed_in
+  unfolding part_of fitting raise
   part_within =
-      let a : part_of f len (fitting f len place (length out)) ≡ ok p = sym l.answer ∙ ap listed_in e in
+      let a : part_of f len (fitting f len place (length out)) ≡ Ok p = sym l.answer ∙ ap told e in
       came_by _ _ a λ x g a₁.
       came_by _ _ g λ n _ g₁.
       let lines : lines_in f len n (line_of n place) (length out) ≡ x = ok_is g₁ in

@@ -1,6 +1,6 @@
 -- Document 01, "Listing": the listing of a file, as its list of bytes.
-use Rattle.std.specs.Prelude.{ℕ, zero, suc, ◌+◌, ◌-◌, min, cond, List, [], ◌++◌, leb, ltb, length}
-use Rattle.outcome.specs.Outcome.{Outcome, ok, refused, ◌>>=◌}
+use Rattle.std.specs.Prelude.{ℕ, zero, suc, ◌+◌, ◌-◌, min, cond, List, [], ◌++◌, leb, ltb, length, Result, Ok, Err}
+use Rattle.outcome.specs.Outcome.{◌>>=◌}
 use Rattle.outcome.specs.Refusal as paper
 use Rattle.parse_buffer.specs.Bytes.{File}
 use Rattle.listing_text.specs.Text.{refusal_text}
@@ -19,9 +19,9 @@ lines_from line from (suc m) = lines_from line from m ++ line (from + m)
 unfoldable pub listing : File → ℕ → List ℕ
 listing f len = whole (listable f len)
   where
-    whole : Outcome paper.Refusal ℕ → List ℕ
-    whole (ok n) = lines_from (line_at f len n) 0 (1 + n)
-    whole (refused why) = refusal_text why
+    whole : Result ℕ paper.Refusal → List ℕ
+    whole (Ok n) = lines_from (line_at f len n) 0 (1 + n)
+    whole (Err why) = refusal_text why
 
 -- ---- a part of a listing
 -- the line at a place; a stream that is not there is past the last line, as the end is
@@ -52,10 +52,10 @@ lines_in f len n from room =
     record { count = n; from = from; many = most room (line_at f len n) from (1 + n - from) }
 
 -- those from a place on, or the whole refusal
-unfoldable pub fitting : File → ℕ → Place → ℕ → Outcome paper.Refusal Lines
+unfoldable pub fitting : File → ℕ → Place → ℕ → Result Lines paper.Refusal
 fitting f len place room = do
   n ← listable f len
-  ok (lines_in f len n (line_of n place) room)
+  Ok (lines_in f len n (line_of n place) room)
 
 -- their bytes
 abbrev pub text_of : File → ℕ → Lines → List ℕ
@@ -66,7 +66,7 @@ abbrev pub part_in : File → ℕ → Lines → Part
 part_in f len l = record { bytes = length (text_of f len l); next = place_of l.count (l.from + l.many) }
 
 -- the answer of `list`
-unfoldable pub part_of : File → ℕ → Outcome paper.Refusal Lines → Outcome paper.Refusal Part
+unfoldable pub part_of : File → ℕ → Result Lines paper.Refusal → Result Part paper.Refusal
 part_of f len o = do
   l ← o
-  ok (part_in f len l)
+  Ok (part_in f len l)

@@ -1,10 +1,11 @@
 // Places in a listing. Its lines are numbered: 0 is the head, 1 + k is stream k's.
-ghost use Rattle.std.specs.Prelude.{◌≡◌, ◌+◌};
+ghost use Rattle.std.specs.Prelude.{◌≡◌};
 ghost use Rattle.listing.specs.Listing.{line_of, place_of};
 
-use paged::{StreamNumber, least};
+use paged::StreamNumber;
 
-#[derive(Clone, Copy)]
+/// Where a listing begins, goes on or has ended.
+#[derive(Clone, Copy, Debug, PartialEq, Eq)]
 pub enum Place {
     Head,
     Stream(StreamNumber),
@@ -17,7 +18,7 @@ pub(crate) fn line_of(count: u32, place: Place) -> usize
 {
     match place {
         Place::Head => 0,
-        Place::Stream(stream) => 1 + least(stream.0 as usize, count as usize),
+        Place::Stream(stream) => 1 + stream.0.min(count) as usize,
         Place::End => 1 + count as usize,
     }
 }
@@ -27,10 +28,10 @@ pub(crate) fn place_of(count: u32, line: usize) -> Place
     ensures { result ≡ place_of count line }
 {
     if line == 0 {
-        return Place::Head;
+        Place::Head
+    } else if line <= count as usize {
+        Place::Stream(StreamNumber((line - 1) as u32))
+    } else {
+        Place::End
     }
-    if (count as usize) < line {
-        return Place::End;
-    }
-    Place::Stream(StreamNumber((line - 1) as u32))
 }

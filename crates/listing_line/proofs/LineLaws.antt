@@ -1,5 +1,5 @@
 -- What a line shows is the answer of mapping its stream afresh, and the carried count is the pages of the streams before it.
-use mathlib.Core.Path.{◌≡◌, refl, sym, ◌∙◌, ap}
+use mathlib.Core.Path.{◌≡◌, refl, sym, ◌∙◌}
 use mathlib.Core.Bool.{not}
 use mathlib.Core.List.{List, ◌++◌}
 use Prim.Native.Nat.{ℕ, zero, suc, ◌+◌, ◌-◌, ◌*◌, ◌/◌, ◌^◌, ◌≤◌, ◌<◌}
@@ -10,7 +10,8 @@ use lib.Dec.{eqb}
 use lib.ListN.{length}
 use mir.Syntax.{w64}
 use mir.Val.{Fits}
-use Rattle.outcome.specs.Outcome.{ok, refused, ◌>>=◌, ◌>>◌, require}
+use Rattle.std.specs.Prelude.{Option, Some, None, Result, Ok, Err}
+use Rattle.outcome.specs.Outcome.{and_next, and_then, ◌>>◌, require, raise}
 use Rattle.outcome.proofs.OutcomeLaws.{by_test}
 use Rattle.store.specs.Putting.{Putting}
 use Rattle.store.proofs.PutLaws.{puts_more}
@@ -25,16 +26,13 @@ use Rattle.runs.specs.Inner.{Lying}
 use Rattle.directory.proofs.DirectoryLaws.{reached_lies}
 use Rattle.slices.specs.Inner.{slices_through}
 use Rattle.stream.specs.Stream.{absent, size_at, present, pages_of, skipped_to, found}
-use Rattle.stream.specs.Inner.{sought_in, why_sought, Before, Skipped, Finding}
+use Rattle.stream.specs.Inner.{Before, Skipped, Finding}
 use Rattle.stream.proofs.StreamLaws.{before_none, before_one}
 use Rattle.stream.proofs.FindLaws.{found_not_5}
 use Rattle.stream.specs.declared.Found.{Found}
-use Rattle.stream.specs.declared.Sought.{Sought}
-use Rattle.stream.specs.declared.Sought.TheVariants as sought
 use Rattle.extent.specs.Extent.{asked_of, asked, extent_of}
-use Rattle.extent.specs.Inner.{EntriesLie, Held}
-use Rattle.extent.proofs.ExtentLaws.{measure_held, first_lie}
-use Rattle.extent.specs.declared.limit.Limit.TheVariants.{None}
+use Rattle.extent.specs.Inner.{EntriesLie}
+use Rattle.extent.proofs.ExtentLaws.{first_lie}
 use Rattle.extent.specs.declared.Extent.{Extent}
 use Rattle.mapping.specs.Mapping.{mapped}
 use Rattle.listing_text.specs.Text.{head_text, size_text, absent_text, refusal_text}
@@ -44,8 +42,6 @@ use Rattle.listing_whole.specs.declared.Listable.{Listable}
 use Rattle.listing_line.specs.Line.{Shown, shown_of, shown, shown_text, line_text, line_at}
 use Rattle.listing_line.specs.Inner.{shown_in}
 use Rattle.listing_line.specs.declared.Shown as code
-use Rattle.listing_line.specs.declared.Line.{Line}
-use Rattle.listing_line.specs.declared.Line.TheVariants as line
 
 -- ---- `show`
 module _ {f : File} {len k : ℕ} {s : Listable} (w : Whole f len s) (l : k < s.count) where
@@ -53,59 +49,55 @@ module _ {f : File} {len k : ℕ} {s : Listable} (w : Whole f len s) (l : k < s.
   own_size = let few = (whole_at f len w).few in omega arith
 
   -- of the tests before that of its size none fails
-  pub size_decides : present f len k ≡ (require (not (eqb (size_at f s.header.pagesize k) absent)) (record { number = 5; value = k }) >> ok (record { header = s.header; count = s.count; size = size_at f s.header.pagesize k }))
-  unfolding present require ◌>>=◌ ◌>>◌
+  pub size_decides : present f len k ≡ (require (not (eqb (size_at f s.header.pagesize k) absent)) (record { number = 5; value = k }) >> Ok (record { header = s.header; count = s.count; size = size_at f s.header.pagesize k }))
+  unfolding present require and_then and_next
   size_decides =
       let at = whole_at f len w in
       let m = at.sizes in
       rw (at.reached, le-leb 1 (s.header.directory / 4) (omega arith), ← at.count, lt-ltb k s.count l, le-leb (2 + k) (s.header.directory / 4) (omega arith))
 
   module _ {bytes : ℕ} (b : bytes ≡ directory_word f s.header.pagesize (1 + k)) where
-    pub show_absent : bytes ≡ absent → shown_in line.Absent ≡ shown f len k
-    unfolding shown_in shown_of mapped asked found skipped_to require ◌>>=◌ ◌>>◌
+    pub show_absent : bytes ≡ absent → shown_in (Ok None) ≡ shown f len k
+    unfolding shown_in shown_of mapped asked found skipped_to require and_then and_next
     show_absent a = rw (size_decides, ← b, eq-eqb bytes absent a)
 
     pub show_skipped : {before : ℕ} → (bytes ≡ absent → ⊥) → Before f s.header.pagesize k before → Skipped f len k (record { header = s.header; count = s.count; size = bytes }) before
-    unfolding require ◌>>◌
+    unfolding require and_next
     show_skipped a before =
         let m = (whole_at f len w).sizes in
         record { is = rw (size_decides, ← b, ne_eqb bytes absent a); sizes = omega arith; pages = before }
 
-    pub show_refused : {before : ℕ} {r : Sought} {why v : Refusal} → (bytes ≡ absent → ⊥) → Before f s.header.pagesize k before → Finding f len k r → r ≡ sought.Refused why → v ≡ why_sought r → shown_in (line.Refused v) ≡ shown f len k
-    unfolding shown_in shown_of mapped asked sought_in ◌>>=◌
-    show_refused {why = why} a before p e u =
-        let g : found f len k ≡ refused (refusal_in why) = sym p.answer ∙ ap sought_in e in
-        rw (g, found_not_5 (show_skipped a before) (refusal_in why) g, u, e)
+    pub show_refused : {before : ℕ} {why : Refusal} → (bytes ≡ absent → ⊥) → Before f s.header.pagesize k before → Finding f len k (Err why) → shown_in (Err why) ≡ shown f len k
+    unfolding shown_in shown_of mapped asked raise and_then
+    show_refused {why = why} a before p =
+        let g : found f len k ≡ Err (refusal_in why) = sym p.answer in
+        rw (g, found_not_5 (show_skipped a before) (refusal_in why) g)
 
-module _ {f : File} {len k : ℕ} {r : Sought} (p : Finding f len k r) where
-  module _ {x : Found} (e : r ≡ sought.Found x) where
-    found_is : found f len k ≡ ok x
-    unfolding sought_in
-    found_is = sym p.answer ∙ ap sought_in e
+module _ {f : File} {len k : ℕ} {x : Found} (p : Finding f len k (Ok x)) where
+  found_is : found f len k ≡ Ok x
+  unfolding raise
+  found_is = sym p.answer
 
-    pub show_held : x.header.directory < 2 ^ 32 → Held x
-    show_held h = measure_held p None e h
+  pub show_lie : {y : Extent} → y ≡ extent_of (asked_of None x) → EntriesLie f len y
+  show_lie is = rw is (first_lie f len k None found_is)
 
-    pub show_lie : {y : Extent} → y ≡ extent_of (asked_of None x) → EntriesLie f len y
-    show_lie is = rw is (first_lie f len k None found_is)
-
-    pub show_stream : {y : Extent} {c : ℕ} → y ≡ extent_of (asked_of None x) → c ≡ length (slices_through f y) → shown_in (line.Stream (record { size = x.size; slices = c })) ≡ shown f len k
-    unfolding shown_in shown_of mapped asked ◌>>=◌
-    show_stream is c = rw (found_is, c, is)
+  pub show_stream : {y : Extent} {c : ℕ} → y ≡ extent_of (asked_of None x) → c ≡ length (slices_through f y) → shown_in (Ok (Some (record { size = x.size; slices = c }))) ≡ shown f len k
+  unfolding shown_in shown_of mapped asked and_then
+  show_stream is c = rw (found_is, c, is)
 
 pub ruleset show_cases = (show_absent, show_refused, show_stream)
 
 -- ---- its text
-module _ {xs t t₁ t₂ : List ℕ} {r₁ r₂ : ℕ} {l : Line} (p : Putting xs t 0 t₁ r₁) where
-  pub text_stream : {s : code.Shown} → l ≡ line.Stream s → Putting (size_text s.size s.slices) t₁ r₁ t₂ r₂ → Putting (xs ++ shown_text (shown_in l)) t 0 t₂ r₂
+module _ {xs t t₁ t₂ : List ℕ} {r₁ r₂ : ℕ} {l : Result (Option code.Shown) Refusal} (p : Putting xs t 0 t₁ r₁) where
+  pub text_stream : {s : code.Shown} → l ≡ Ok (Some s) → Putting (size_text s.size s.slices) t₁ r₁ t₂ r₂ → Putting (xs ++ shown_text (shown_in l)) t 0 t₂ r₂
   unfolding shown_in shown_text
   text_stream e q = rw e (puts_more p q)
 
-  pub text_absent : l ≡ line.Absent → Putting absent_text t₁ r₁ t₂ r₂ → Putting (xs ++ shown_text (shown_in l)) t 0 t₂ r₂
+  pub text_absent : l ≡ Ok None → Putting absent_text t₁ r₁ t₂ r₂ → Putting (xs ++ shown_text (shown_in l)) t 0 t₂ r₂
   unfolding shown_in shown_text
   text_absent e q = rw e (puts_more p q)
 
-  pub text_refused : {why : Refusal} {number value : ℕ} → l ≡ line.Refused why → number ≡ (refusal_in why).number → value ≡ (refusal_in why).value → Putting (refusal_text (record { number = number; value = value })) t₁ r₁ t₂ r₂ → Putting (xs ++ shown_text (shown_in l)) t 0 t₂ r₂
+  pub text_refused : {why : Refusal} {number value : ℕ} → l ≡ Err why → number ≡ (refusal_in why).number → value ≡ (refusal_in why).value → Putting (refusal_text (record { number = number; value = value })) t₁ r₁ t₂ r₂ → Putting (xs ++ shown_text (shown_in l)) t 0 t₂ r₂
   unfolding shown_in shown_text
   text_refused e n v q = rw e (puts_more p (rw (n, v) at q))
 

@@ -1,11 +1,9 @@
 -- Document 01, "Listing": a line of the listing, and what a stream's line shows.
-use Rattle.std.specs.Prelude.{ℕ, zero, suc, cond, List, ◌++◌, eqb}
-use Rattle.outcome.specs.Outcome.{Outcome, ok, refused}
+use Rattle.std.specs.Prelude.{ℕ, zero, suc, cond, List, ◌++◌, eqb, None, Result, Ok, Err}
 use Rattle.outcome.specs.Refusal as paper
 use Rattle.parse_buffer.specs.Bytes.{File}
 use Rattle.extent.specs.Extent.{asked}
 use Rattle.mapping.specs.Mapping.{mapped}
-use Rattle.extent.specs.declared.limit.Limit.TheVariants.{None}
 use Rattle.mapping.specs.declared.Mapped.{Mapped}
 use Rattle.listing_text.specs.Text.{head_text, stream_text, size_text, absent_text, refusal_text}
 
@@ -17,9 +15,9 @@ pub data Shown : Type 0 where
 
 -- it is the answer of mapping the stream, without a limit or a store; of the streams listed only an absent one is
 -- refused with 5
-unfoldable pub shown_of : Outcome paper.Refusal Mapped → Shown
-shown_of (ok m) = sized_as m.length m.slices
-shown_of (refused why) = cond (eqb why.number 5) not_there (refused_with why)
+unfoldable pub shown_of : Result Mapped paper.Refusal → Shown
+shown_of (Ok m) = sized_as m.length m.slices
+shown_of (Err why) = cond (eqb why.number 5) not_there (refused_with why)
 
 abbrev pub shown : File → ℕ → ℕ → Shown
 shown f len k = shown_of (mapped f (asked f len k None))

@@ -9,7 +9,8 @@ use native.Mathlib.Omega.{arith}
 use borrow.Author.Tests.{le-leb, lt-leb, eq-eqb, eqb-true}
 use lib.Dec.{eqb}
 use lib.ListN.{length}
-use Rattle.outcome.specs.Outcome.{Outcome, ok, refused, ◌>>=◌, ◌>>◌, require}
+use Rattle.std.specs.Prelude.{None, Result, Ok, Err}
+use Rattle.outcome.specs.Outcome.{and_next, and_then, require}
 use Rattle.outcome.specs.Refusal as paper
 use Rattle.outcome.proofs.OutcomeLaws.{below_or, came, came_by, ok_is, refused_is, ok_refused, EachRefusal, refuses_none, refuses_with, refuses_by, refuses_then, refuses_require}
 use Rattle.outcome.proofs.EachLaws.{refuses_each}
@@ -25,7 +26,6 @@ use Rattle.stream.proofs.FindLaws.{found_at}
 use Rattle.slices.specs.Slices.{cut}
 use Rattle.slices.specs.declared.SourceSlice.{SourceSlice}
 use Rattle.extent.specs.Extent.{asked, asked_of}
-use Rattle.extent.specs.declared.limit.Limit.TheVariants.{None}
 use Rattle.mapping.specs.Mapping.{slices_in, mapping, mapped}
 use Rattle.mapping.specs.declared.Mapped.{Mapped}
 use Rattle.listing_whole.specs.Whole.{listable, judging}
@@ -46,25 +46,25 @@ neither : {A B : Type 0} → (A → ⊥) → (B → ⊥) → A ↔ B
 neither f g = (λ a. absurd (f a), λ b. absurd (g b))
 
 -- ---- 5 is given for one size alone
-reached_by : (f : File) (len : ℕ) {n : ℕ} {C : Type 0} → listable f len ≡ ok n → ((h : Header) → reached f len ≡ ok h → C) → C
+reached_by : (f : File) (len : ℕ) {n : ℕ} {C : Type 0} → listable f len ≡ Ok n → ((h : Header) → reached f len ≡ Ok h → C) → C
 unfolding listable stream_count
 reached_by f len l c = came _ _ l λ _ _ e₁. came_by _ _ e₁ λ _ s _. came_by _ _ s λ h d _. c h d
 
-module _ (f : File) (len : ℕ) {h : Header} (d : reached f len ≡ ok h) where
+module _ (f : File) (len : ℕ) {h : Header} (d : reached f len ≡ Ok h) where
   page_size : h.pagesize ≡ (header_at f).pagesize
   page_size = ap (λ (g : Header). g.pagesize) (is_located f len (reached_at f len d).located).is
 
-  module _ {n : ℕ} (l : listable f len ≡ ok n) where
+  module _ {n : ℕ} (l : listable f len ≡ Ok n) where
     whole : Whole f len (record { header = h; count = n })
-    unfolding judging ◌>>=◌
+    unfolding judging and_then
     whole = record { is = rw (l, d) }
 
     module _ (k : ℕ) (m : k < n) where
       abbrev size : ℕ
       size = size_at f h.pagesize k
 
-      found_absent : size ≡ absent → found f len k ≡ refused (not_found k)
-      unfolding found skipped_to require ◌>>=◌ ◌>>◌
+      found_absent : size ≡ absent → found f len k ≡ Err (not_found k)
+      unfolding found skipped_to require and_then and_next
       found_absent a = rw (size_decides whole m, eq-eqb size absent a)
 
       abbrev BySize : paper.Refusal → Type 0
@@ -109,36 +109,36 @@ module _ (f : File) (len n k : ℕ) where
   shows : {y : Shown} → line_at f len n (suc k) ≡ line_text k y → (z : Shown) → (line_at f len n (suc k) ≡ line_text k z) ↔ (y ≡ z)
   shows {y} e z = (λ is. (lines_told.line k k y z (sym e ∙ is)).1, λ is. e ∙ ap (line_text k) is)
 
-  module _ {why : paper.Refusal} (e : found f len k ≡ refused why) where
-    map_refused : (room : ℕ) → mapped f (mapping f len k None room) ≡ refused why
-    unfolding mapping mapped asked ◌>>=◌
+  module _ {why : paper.Refusal} (e : found f len k ≡ Err why) where
+    map_refused : (room : ℕ) → mapped f (mapping f len k None room) ≡ Err why
+    unfolding mapping mapped asked and_then
     map_refused room = rw e
 
     line_absent : eqb why.number 5 ≡ true → line_at f len n (suc k) ≡ line_text k not_there
-    unfolding line_at shown_of mapped asked ◌>>=◌
+    unfolding line_at shown_of mapped asked and_then
     line_absent t = rw (e, t)
 
     line_refused : eqb why.number 5 ≡ false → line_at f len n (suc k) ≡ line_text k (refused_with why)
-    unfolding line_at shown_of mapped asked ◌>>=◌
+    unfolding line_at shown_of mapped asked and_then
     line_refused t = rw (e, t)
 
-  module _ {x : Found} (e : found f len k ≡ ok x) where
+  module _ {x : Found} (e : found f len k ≡ Ok x) where
     abbrev slices : ℕ
     slices = length (slices_in f (asked_of None x))
 
     line_found : line_at f len n (suc k) ≡ line_text k (sized_as x.size slices)
-    unfolding line_at shown_of mapped asked ◌>>=◌
+    unfolding line_at shown_of mapped asked and_then
     line_found = rw e
 
-    map_full : (room : ℕ) → room < slices → mapped f (mapping f len k None room) ≡ refused (record { number = 10; value = slices })
-    unfolding mapping mapped asked require ◌>>=◌ ◌>>◌
+    map_full : (room : ℕ) → room < slices → mapped f (mapping f len k None room) ≡ Err (record { number = 10; value = slices })
+    unfolding mapping mapped asked require and_then and_next
     map_full room l = rw (e, lt-leb slices room l)
 
-    map_found : (room : ℕ) → slices ≤ room → mapped f (mapping f len k None room) ≡ ok (record { slices = slices; length = x.size })
-    unfolding mapping mapped asked require ◌>>=◌ ◌>>◌
+    map_found : (room : ℕ) → slices ≤ room → mapped f (mapping f len k None room) ≡ Ok (record { slices = slices; length = x.size })
+    unfolding mapping mapped asked require and_then and_next
     map_found room l = rw (e, le-leb slices room l)
 
-    not_5 : (room : ℕ) → mapped f (mapping f len k None room) ≡ refused (not_found k) → ⊥
+    not_5 : (room : ℕ) → mapped f (mapping f len k None room) ≡ Err (not_found k) → ⊥
     not_5 room is =
         ⊎_elim
         (λ (l : room < slices).
@@ -161,7 +161,7 @@ module _ (f : File) (len n k : ℕ) where
       λ z. (shows line_found (sized_as 0 0)).1 (rw (no_slices z, z)),
     )
 
-    zero_answer : (room : ℕ) → (x.size ≡ 0) ↔ (mapped f (mapping f len k None room) ≡ ok (record { slices = 0; length = 0 }))
+    zero_answer : (room : ℕ) → (x.size ≡ 0) ↔ (mapped f (mapping f len k None room) ≡ Ok (record { slices = 0; length = 0 }))
     zero_answer room = (
       λ z. map_found room (let none = no_slices z in omega arith) ∙ rw (no_slices z, z),
       λ is.
@@ -172,20 +172,20 @@ module _ (f : File) (len n k : ℕ) where
     )
 
 -- ---- a stream of a file that is listed: refused with 5, refused otherwise, or found
-module _ (f : File) (len n k : ℕ) (l : listable f len ≡ ok n) (m : k < n) {h : Header} (d : reached f len ≡ ok h) where
-  found_size : {x : Found} → found f len k ≡ ok x → x.size ≡ size_at f (header_at f).pagesize k
+module _ (f : File) (len n k : ℕ) (l : listable f len ≡ Ok n) (m : k < n) {h : Header} (d : reached f len ≡ Ok h) where
+  found_size : {x : Found} → found f len k ≡ Ok x → x.size ≡ size_at f (header_at f).pagesize k
   found_size e =
       let at = found_at f len k e in
       size_is f len k at.skipped ∙ ap (λ (p : ℕ). size_at f p k) (page_size f len at.reached)
 
-  absent_found : size_at f (header_at f).pagesize k ≡ absent → found f len k ≡ refused (not_found k)
+  absent_found : size_at f (header_at f).pagesize k ≡ absent → found f len k ≡ Err (not_found k)
   absent_found a = found_absent f len d l k m (rw (page_size f len d) a)
 
   -- whatever the room, a refusal is no answer
-  no_answer : {why : paper.Refusal} {y : Mapped} → found f len k ≡ refused why → (room : ℕ) → mapped f (mapping f len k None room) ≡ ok y → ⊥
+  no_answer : {why : paper.Refusal} {y : Mapped} → found f len k ≡ Err why → (room : ℕ) → mapped f (mapping f len k None room) ≡ Ok y → ⊥
   no_answer e room is = ok_refused (sym is ∙ map_refused f len n k e room)
 
-  by_five : {why : paper.Refusal} → found f len k ≡ refused why → eqb why.number 5 ≡ true → AbsentExactly f len n k
+  by_five : {why : paper.Refusal} → found f len k ≡ Err why → eqb why.number 5 ≡ true → AbsentExactly f len n k
   unfolding shown_text
   by_five {why} e t =
       let line = line_absent f len n k e t in
@@ -197,7 +197,7 @@ module _ (f : File) (len n k : ℕ) (l : listable f len ≡ ok n) (m : k < n) {h
         empty_size = λ e'. absurd (ok_refused (sym e' ∙ e));
       }
 
-  by_other : {why : paper.Refusal} → found f len k ≡ refused why → eqb why.number 5 ≡ false → AbsentExactly f len n k
+  by_other : {why : paper.Refusal} → found f len k ≡ Err why → eqb why.number 5 ≡ false → AbsentExactly f len n k
   unfolding shown_text
   by_other {why} e t =
       let line = line_refused f len n k e t in
@@ -210,7 +210,7 @@ module _ (f : File) (len n k : ℕ) (l : listable f len ≡ ok n) (m : k < n) {h
         empty_size = λ e'. absurd (ok_refused (sym e' ∙ e));
       }
 
-  by_there : {x : Found} → found f len k ≡ ok x → AbsentExactly f len n k
+  by_there : {x : Found} → found f len k ≡ Ok x → AbsentExactly f len n k
   unfolding shown_text
   by_there e =
       let zero = zero_size f len n k e in
@@ -223,9 +223,9 @@ module _ (f : File) (len n k : ℕ) (l : listable f len ≡ ok n) (m : k < n) {h
         empty_size = λ e'. rw (← found_size e') (zero_size f len n k e');
       }
 
-  exactly : (o : Outcome paper.Refusal Found) → found f len k ≡ o → AbsentExactly f len n k
-  exactly (ok x) e = by_there e
-  exactly (refused why) e = by_number (eqb why.number 5) refl
+  exactly : (o : Result Found paper.Refusal) → found f len k ≡ o → AbsentExactly f len n k
+  exactly (Ok x) e = by_there e
+  exactly (Err why) e = by_number (eqb why.number 5) refl
     where
       by_number : (b : Bool) → eqb why.number 5 ≡ b → AbsentExactly f len n k
       by_number true t = by_five e t

@@ -1,7 +1,7 @@
 -- The listing of file F, by computation.
 use mathlib.Core.Path.{refl}
 use lib.Count
-use Rattle.outcome.specs.Outcome.{◌>>=◌, ◌>>◌, require}
+use Rattle.outcome.specs.Outcome.{and_next, and_then, require}
 use Rattle.outcome.specs.Each.{each}
 use Rattle.parse_buffer.specs.Bytes.{word}
 use Rattle.paged.specs.PageSize.{size_is_fit, need}
@@ -21,5 +21,5 @@ use Rattle.listing.specs.Listing.{lines_from, listing}
 use Rattle.listing_statements.specs.Cases.{Cases}
 
 pub cases : Cases
-unfolding F file_f ◌>>=◌ ◌>>◌ require each word size_is_fit need location directory_page directory_word page_fits stands_at sized headed located listed reached stream_count pages_of pages_before present skipped_to found lengthen slices_of cut asked mapped spelled shown_text listable shown_of line_at lines_from listing Count.ones Count.ones_in
+unfolding F file_f and_then and_next require each word size_is_fit need location directory_page directory_word page_fits stands_at sized headed located listed reached stream_count pages_of pages_before present skipped_to found lengthen slices_of cut asked mapped spelled shown_text listable shown_of line_at lines_from listing Count.ones Count.ones_in
 cases = record { listing_of_f = refl }

@@ -9,21 +9,21 @@ use borrow.Author.Tests.{le-leb, lt-ltb, le-ltb}
 use lib.Dec.{leb}
 use lib.ListN.{length, take}
 use lib.Seq.{sets, sets-eq, take_at}
-use Rattle.outcome.specs.Outcome.{ok, refused, ◌>>=◌}
+use Rattle.std.specs.Prelude.{Result, Ok, Err}
+use Rattle.outcome.specs.Outcome.{and_then, raise}
 use Rattle.outcome.specs.Refusal as paper
 use Rattle.outcome.specs.Store.{written}
 use Rattle.outcome.proofs.OutcomeLaws.{by_test, below_or, ok_is}
 use Rattle.parse_buffer.specs.Bytes.{File}
 use Rattle.listing_text.specs.Text.{refusal_text}
-use Rattle.listing_whole.specs.Whole.{listable}
+use Rattle.listing_whole.specs.Whole.{told, listable}
+use Rattle.listing_whole.specs.declared.refusal.ListRefusal.{ListRefusal}
 use Rattle.listing_line.specs.Line.{line_at}
 use Rattle.listing.specs.Listing.{lines_from, listing, line_of, place_of, most, lines_in, fitting, part_in, part_of}
-use Rattle.listing.specs.Promises.{listed_in, Lists, Refuses}
+use Rattle.listing.specs.Promises.{Lists, Refuses}
 use Rattle.listing.specs.declared.place.Place.{Place}
 use Rattle.listing.specs.declared.place.Place.TheVariants.{Head, End}
 use Rattle.listing.specs.declared.Part.{Part}
-use Rattle.listing.specs.declared.Listed.{Listed}
-use Rattle.listing.specs.declared.Listed.TheVariants as listed
 use Rattle.listing.proofs.ListLaws.{most_fits}
 use Rattle.listing.proofs.PlaceLaws.{line_most, place_end}
 use Rattle.listing_statements.specs.Statements.{Called, none, more, rest_from, InParts}
@@ -69,7 +69,7 @@ front : (xs out : List ℕ) → length xs ≤ length out → take (length xs) (s
 front xs out l = ap (take (length xs)) (sets-eq xs out 0 (omega arith)) ∙ take_at xs _ (length xs) refl
 
 -- ---- a file that is listed
-module _ (f : File) (len n : ℕ) (e : listable f len ≡ ok n) where
+module _ (f : File) (len n : ℕ) (e : listable f len ≡ Ok n) where
   -- one call: how many lines it puts
   record Call (place : Place) (out out' : List ℕ) (p : Part) : Type 0 where
     many : ℕ
@@ -78,8 +78,8 @@ module _ (f : File) (len n : ℕ) (e : listable f len ≡ ok n) where
     part : take p.bytes out' ≡ lines_from (line_at f len n) (line_of n place) many
     next : p.next ≡ place_of n (line_of n place + many)
 
-  call : {place : Place} {out out' : List ℕ} {p : Part} → Lists f len place out (listed.Part p) out' → Call place out out' p
-  unfolding listed_in part_of fitting written ◌>>=◌
+  call : {place : Place} {out out' : List ℕ} {p : Part} → Lists f len place out (Ok p) out' → Call place out out' p
+  unfolding raise part_of fitting written and_then
   call {place} {out} {out'} {p} l =
       let from = line_of n place in
       let m = most (length out) (line_at f len n) from (1 + n - from) in
@@ -154,13 +154,13 @@ module _ (f : File) (len n : ℕ) (e : listable f len ≡ ok n) where
   from_head = let z : 1 + n - 0 ≡ 1 + n = omega arith in rw (e, z)
 
 -- ---- a file that is refused
-module _ (f : File) (len : ℕ) {why : paper.Refusal} (e : listable f len ≡ refused why) where
+module _ (f : File) (len : ℕ) {why : paper.Refusal} (e : listable f len ≡ Err why) where
   one_line : listing f len ≡ refusal_text why
   unfolding listing
   one_line = rw e
 
-  refused_whole : (place : Place) (out : List ℕ) (r : Listed) (out' : List ℕ) → Lists f len place out r out' → listed_in r ≡ refused why
-  unfolding part_of fitting ◌>>=◌
+  refused_whole : (place : Place) (out : List ℕ) (r : Result Part ListRefusal) (out' : List ℕ) → Lists f len place out r out' → told r ≡ Err why
+  unfolding part_of fitting and_then
   refused_whole place out r out' l = l.answer ∙ rw e
 
   line_put : (out : List ℕ) (r : ℕ) (out' : List ℕ) → length (listing f len) ≤ length out → Refuses why out r out' → take r out' ≡ listing f len

@@ -7,7 +7,8 @@ use native.Mathlib.Nat.{pow-suc}
 use borrow.Author.Tests.{lt-ltb, le-ltb, leb-true}
 use lib.Dec.{eqb}
 use lib.ListN.{length, length-append}
-use Rattle.outcome.specs.Outcome.{Outcome, ok, refused, ◌>>=◌}
+use Rattle.std.specs.Prelude.{Result, Ok, Err}
+use Rattle.outcome.specs.Outcome.{and_then}
 use Rattle.outcome.specs.Refusal as paper
 use Rattle.outcome.proofs.OutcomeLaws.{by_test, below_or, came, came_by, ok_is, passed, EachRefusal, refuses_none, refuses_by, refuses_then, refuses_require}
 use Rattle.outcome.proofs.EachLaws.{refuses_each}
@@ -57,7 +58,7 @@ refusal_short : (why : paper.Refusal) → Small why → length (refusal_text why
 refusal_short why s = let x = short s.0 in let y = short s.1 in simp length-append (omega arith)
 
 -- ---- a stream has the size that the directory has for it
-pub size_is : (f : File) (len k : ℕ) {x : Found} → skipped_to f len k ≡ ok x → x.size ≡ size_at f x.header.pagesize k
+pub size_is : (f : File) (len k : ℕ) {x : Found} → skipped_to f len k ≡ Ok x → x.size ≡ size_at f x.header.pagesize k
 unfolding skipped_to
 size_is f len k e =
     came_by _ _ e λ y s e₁.
@@ -72,9 +73,9 @@ module _ (f : File) (bytes : (i : ℕ) → f i < 256) where
   directory_small p w = word_small f bytes _
 
   -- where the directory is reached: the refusals of finding a stream, and what is found
-  module _ (len : ℕ) {h : Header} (d : reached f len ≡ ok h) (k : ℕ) (few : k < 2 ^ 32) where
+  module _ (len : ℕ) {h : Header} (d : reached f len ≡ Ok h) (k : ℕ) (few : k < 2 ^ 32) where
     sized_small : EachRefusal Small (present f len k)
-    unfolding present ◌>>=◌
+    unfolding present and_then
     sized_small =
         rw d
         (refuses_then Small _ _ (refuses_require Small _ _ (omega arith, omega arith))
@@ -94,10 +95,10 @@ module _ (f : File) (bytes : (i : ℕ) → f i < 256) where
         refuses_then Small _ _ (refuses_each Small _ _ (λ j. (omega arith, directory_small _ _)) _)
         (refuses_then Small _ _ (refuses_require Small _ _ (omega arith, omega arith)) (refuses_none Small _)))
 
-    size_small : {x : Found} → skipped_to f len k ≡ ok x → x.size < 2 ^ 32
+    size_small : {x : Found} → skipped_to f len k ≡ Ok x → x.size < 2 ^ 32
     size_small e = rw (size_is f len k e) (directory_small _ _)
 
-    pages_small : {x : Found} → found f len k ≡ ok x → own_pages x < 2 ^ 32
+    pages_small : {x : Found} → found f len k ≡ Ok x → own_pages x < 2 ^ 32
     pages_small {x} e =
         let at = found_at f len k e in
         let inside = at.inside in
@@ -105,22 +106,22 @@ module _ (f : File) (bytes : (i : ℕ) → f i < 256) where
         let size : x.header.directory ≡ word f 44 = ap (λ (g : Header). g.directory) is in
         omega (arith, word_small f bytes 44)
 
-    shown_short : (o : Outcome paper.Refusal Found) → found f len k ≡ o → length (shown_text (shown f len k)) ≤ 30
-    unfolding shown_of shown_text mapped asked ◌>>=◌
-    shown_short (ok x) e =
+    shown_short : (o : Result Found paper.Refusal) → found f len k ≡ o → length (shown_text (shown f len k)) ≤ 30
+    unfolding shown_of shown_text mapped asked and_then
+    shown_short (Ok x) e =
         let slices = cut_few x.size (slices_of x.header.pagesize (own_page f x) (own_pages x)) in
         let pages = slices_few x.header.pagesize (own_page f x) (own_pages x) in
         let most = pages_small e in
         let text = size_short x.size (length (cut x.size (slices_of x.header.pagesize (own_page f x) (own_pages x)))) (size_small (found_at f len k e).skipped) (omega arith) in
         rw e (omega arith)
-    shown_short (refused why) e =
+    shown_short (Err why) e =
         rw e
         (by_test (λ (s : Shown). length (shown_text s) ≤ 30) (eqb why.number 5)
         (λ _. omega arith)
         (λ _. refusal_short why (found_small why e)))
 
   -- a file that is listed has its directory, and few streams
-  pub line_short : (len n : ℕ) → listable f len ≡ ok n → (i : ℕ) → i ≤ n → length (line_at f len n i) ≤ 80
+  pub line_short : (len n : ℕ) → listable f len ≡ Ok n → (i : ℕ) → i ≤ n → length (line_at f len n i) ≤ 80
   unfolding listable stream_count line_at
   line_short len n e zero l =
       came _ _ e λ _ _ e₁.

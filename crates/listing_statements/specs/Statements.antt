@@ -1,27 +1,26 @@
 -- What holds of the listing beyond its promises. proofs/ has a proof of each record.
-use Rattle.std.specs.Prelude.{◌≡◌, ℕ, ◌+◌, ◌-◌, ◌*◌, ◌≤◌, ◌<◌, length, take, get_or}
+use Rattle.std.specs.Prelude.{◌≡◌, ℕ, ◌+◌, ◌-◌, ◌*◌, ◌≤◌, ◌<◌, length, take, get_or, Result, Ok, Err}
 use mathlib.Core.List.{List, [], ◌∷◌, ◌++◌, flatten}
-use Rattle.outcome.specs.Outcome.{ok, refused}
 use Rattle.outcome.specs.Refusal as paper
 use Rattle.outcome.specs.Only.{Only, Only₂, Injective}
 use Rattle.parse_buffer.specs.Bytes.{File}
 use Rattle.listing_text.specs.Text.{decimal, refusal_text}
-use Rattle.listing_whole.specs.Whole.{listable, list_refusal_in}
-use Rattle.listing_whole.specs.Inner.{judged_in, Judges}
+use Rattle.listing_whole.specs.Whole.{told, listable, list_refusal_in}
+use Rattle.listing_whole.specs.Inner.{Judges}
+use Rattle.listing_whole.specs.declared.refusal.ListRefusal.{ListRefusal}
+use Rattle.listing_whole.specs.declared.Listable.{Listable}
 use Rattle.listing_line.specs.Line.{line_at}
 use Rattle.listing.specs.Listing.{lines_from, listing, line_of}
-use Rattle.listing.specs.Promises.{listed_in, Lists, Refuses}
+use Rattle.listing.specs.Promises.{Lists, Refuses}
 use Rattle.listing.specs.declared.place.Place.{Place}
 use Rattle.listing.specs.declared.place.Place.TheVariants.{Head, End}
 use Rattle.listing.specs.declared.Part.{Part}
-use Rattle.listing.specs.declared.Listed.{Listed}
-use Rattle.listing.specs.declared.Listed.TheVariants as listed
 
 -- what an answer says on paper tells it from every other answer
 pub record Told : Type 0 where
   pub refusal : Injective list_refusal_in
-  pub listed : Injective listed_in
-  pub judged : Injective judged_in
+  pub listed : Injective (told {A = Part})
+  pub judged : Injective (told {A = Listable})
 
 -- no second answer, and no other buffer, satisfies a promise
 pub record SingleValued : Type 0 where
@@ -46,7 +45,7 @@ pub record Decimal : Type 0 where
 pub data Called (f : File) (len room : ℕ) : Place → List (List ℕ) → Place → Type 0 where
   none : {place : Place} → Called f len room place [] place
   more : {place last : Place} {out out' : List ℕ} {p : Part} {rest : List (List ℕ)} → room ≤ length out →
-      Lists f len place out (listed.Part p) out' → Called f len room p.next rest last →
+      Lists f len place out (Ok p) out' → Called f len room p.next rest last →
       Called f len room place (take p.bytes out' ∷ rest) last
 
 -- the lines from a place to the end
@@ -60,7 +59,7 @@ pub record Parts (f : File) (len n : ℕ) : Type 0 where
       listing f len ≡ flatten parts ++ rest_from f len n last
   pub none : rest_from f len n End ≡ []
   -- a line that fits is in its part
-  pub onward : (place : Place) (out : List ℕ) (p : Part) (out' : List ℕ) → Lists f len place out (listed.Part p) out' →
+  pub onward : (place : Place) (out : List ℕ) (p : Part) (out' : List ℕ) → Lists f len place out (Ok p) out' →
       line_of n place ≤ n → length (line_at f len n (line_of n place)) ≤ length out → line_of n place < line_of n p.next
   -- so with room for every line the listing ends after at most 1 + n calls
   pub ends : (room : ℕ) → ((i : ℕ) → i ≤ n → length (line_at f len n i) ≤ room) →
@@ -72,11 +71,11 @@ pub record Parts (f : File) (len n : ℕ) : Type 0 where
 -- `list_refusal` puts the line
 pub record NoParts (f : File) (len : ℕ) (why : paper.Refusal) : Type 0 where
   pub one_line : listing f len ≡ refusal_text why
-  pub answer : (place : Place) (out : List ℕ) (r : Listed) (out' : List ℕ) → Lists f len place out r out' →
-      listed_in r ≡ refused why
+  pub answer : (place : Place) (out : List ℕ) (r : Result Part ListRefusal) (out' : List ℕ) → Lists f len place out r out' →
+      told r ≡ Err why
   pub line : (out : List ℕ) (r : ℕ) (out' : List ℕ) → length (listing f len) ≤ length out → Refuses why out r out' →
       take r out' ≡ listing f len
 
 pub record InParts (f : File) (len : ℕ) : Type 0 where
-  pub parts : (n : ℕ) → listable f len ≡ ok n → Parts f len n
-  pub refusal : (why : paper.Refusal) → listable f len ≡ refused why → NoParts f len why
+  pub parts : (n : ℕ) → listable f len ≡ Ok n → Parts f len n
+  pub refusal : (why : paper.Refusal) → listable f len ≡ Err why → NoParts f len why

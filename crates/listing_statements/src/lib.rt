@@ -11,7 +11,8 @@ ghost use Rattle.listing_statements.specs.Statements.{Told, SingleValued, Decima
 ghost use Rattle.listing_statements.specs.Lines.{LinesTold, AbsentIsNotEmpty};
 ghost use Rattle.listing_statements.specs.Cases.{Cases};
 
-// Each statement of this crate, as a promise that must be proved: none can vanish unnoticed.
+/// Each statement of this crate, as a promise that must be proved: none can vanish unnoticed.
+#[tactic(auto, using(crate::proofs::Statements::told, crate::proofs::Statements::single_valued, crate::proofs::Decimal::decimal_right, crate::proofs::InParts::in_parts, crate::proofs::Lines::lines_told, crate::proofs::Absent::absent_is_not_empty, crate::proofs::Cases::cases))]
 pub fn proved()
     ensures told { Told }
     ensures single_valued { SingleValued }

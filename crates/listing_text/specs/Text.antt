@@ -1,5 +1,5 @@
 -- Document 01, "Listing": the bytes of its lines.
-use Rattle.std.specs.Prelude.{ℕ, zero, suc, ◌+◌, ◌/◌, ◌%◌, cond, List, [], ◌∷◌, ◌++◌, ltb}
+use Rattle.std.specs.Prelude.{ℕ, zero, suc, ◌+◌, ◌/◌, ◌%◌, cond, List, [], ◌∷◌, ◌++◌, ltb, codes}
 use Rattle.outcome.specs.Refusal as paper
 
 -- the character of a digit: `0` is 48
@@ -14,24 +14,21 @@ spelled (suc more) n = cond (ltb n 10) (digit n ∷ []) (spelled more (n / 10) +
 abbrev pub decimal : ℕ → List ℕ
 decimal n = spelled (suc n) n
 
--- "streams "
 abbrev pub streams_word : List ℕ
-streams_word = 0x73 ∷ 0x74 ∷ 0x72 ∷ 0x65 ∷ 0x61 ∷ 0x6d ∷ 0x73 ∷ 0x20 ∷ []
+streams_word = codes "streams "
 
--- "refused "
 abbrev pub refused_word : List ℕ
-refused_word = 0x72 ∷ 0x65 ∷ 0x66 ∷ 0x75 ∷ 0x73 ∷ 0x65 ∷ 0x64 ∷ 0x20 ∷ []
+refused_word = codes "refused "
 
--- "absent"
 abbrev pub absent_word : List ℕ
-absent_word = 0x61 ∷ 0x62 ∷ 0x73 ∷ 0x65 ∷ 0x6e ∷ 0x74 ∷ []
+absent_word = codes "absent"
 
 abbrev pub blank : List ℕ
-blank = 0x20 ∷ []
+blank = codes " "
 
 -- "each line ended by one newline"
 abbrev pub newline : List ℕ
-newline = 0x0a ∷ []
+newline = codes "\n"
 
 -- the head: `streams N`
 abbrev pub head_text : ℕ → List ℕ

@@ -6,57 +6,37 @@
 
 mod refusal;
 
-ghost use Rattle.std.specs.Prelude.{◌≡◌, length};
+ghost use Rattle.std.specs.Prelude.{length};
 ghost use Rattle.parse_buffer.specs.Bytes.{byte_at};
-ghost use Rattle.listing_whole.specs.Inner.{why_not, Judges};
+ghost use Rattle.listing_whole.specs.Inner.{Judges};
 
 use directory::reach;
-use header::{Headed, Header};
+use header::Header;
 use paged::{Refusal, directory_word};
 pub use refusal::{INPUT_LIMIT, ListRefusal, STREAM_LIMIT};
 
-// What a file that is listed has: a directory that holds its count and all sizes.
-#[derive(Clone, Copy)]
+/// What a file that is listed has: a directory that holds its count and all sizes.
+#[derive(Clone, Copy, Debug, PartialEq, Eq)]
 pub struct Listable {
     pub header: Header,
     pub count: u32,
 }
 
-#[derive(Clone, Copy)]
-pub enum Judged {
-    Listable(Listable),
-    Refused(ListRefusal),
-}
-
-impl Judged {
-    // Why the file is not listed. Callers ask this of a refusal only.
-    pub fn why(self) -> ListRefusal
-        ensures { result ≡ why_not self }
-    {
-        match self {
-            Judged::Listable(_) => ListRefusal::OverLimit(STREAM_LIMIT),
-            Judged::Refused(why) => why,
-        }
-    }
-}
-
-#[tactic(auto, using(crate::proofs::WholeLaws::too_long))]
-pub fn judge(file: &[u8]) -> Judged
+/// Judges whether a file is listed.
+#[tactic(auto, using(crate::proofs::WholeLaws::size_same), unfolding(crate::specs::Whole::judging, crate::specs::Whole::listable, directory::specs::Directory::stream_count, outcome::specs::Outcome::and_then, outcome::specs::Outcome::and_next, outcome::specs::Outcome::require, outcome::specs::Outcome::raise))]
+pub fn judge(file: &[u8]) -> Result<Listable, ListRefusal>
     ensures { Judges (byte_at file.now) (length file.now) result }
 {
     if INPUT_LIMIT < file.len() {
-        return Judged::Refused(ListRefusal::OverLimit(INPUT_LIMIT as u32));
+        return Err(ListRefusal::OverLimit(INPUT_LIMIT as u32));
     }
-    let reached = reach(file);
-    let Headed::Container(h) = reached else {
-        return Judged::Refused(ListRefusal::Container(reached.why()));
-    };
+    let h = reach(file)?;
     let count = directory_word(file, h.pagesize as usize, 0);
-    if (h.directory as u64) < 4 + 4 * count as u64 {
-        return Judged::Refused(ListRefusal::Container(Refusal::ShortData));
+    if u64::from(h.directory) < 4 + 4 * u64::from(count) {
+        return Err(ListRefusal::Container(Refusal::ShortData));
     }
     if STREAM_LIMIT < count {
-        return Judged::Refused(ListRefusal::OverLimit(STREAM_LIMIT));
+        return Err(ListRefusal::OverLimit(STREAM_LIMIT));
     }
-    Judged::Listable(Listable { header: h, count })
+    Ok(Listable { header: h, count })
 }

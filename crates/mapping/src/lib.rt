@@ -7,69 +7,60 @@
 
 ghost use Rattle.std.specs.Prelude.{min, length};
 ghost use Rattle.parse_buffer.specs.Bytes.{byte_at};
-ghost use Rattle.extent.specs.Inner.{Sound};
-ghost use Rattle.mapping.specs.Inner.{Judged, Fitting, Judging, Puts};
+ghost use Rattle.extent.specs.Inner.{Extends, EntriesLie};
+ghost use Rattle.mapping.specs.Inner.{Writable, Fitting, Judging, Puts};
 
-use extent::{Limit, Measured, measure};
+use extent::{Extent, measure};
 use paged::{Refusal, StreamNumber};
 use slices::{count_slices, write_slices};
 
-// How many slices there are, and how many bytes they have.
-#[derive(Clone, Copy)]
+/// How many slices there are, and how many bytes they have.
+#[derive(Clone, Copy, Debug, PartialEq, Eq)]
 pub struct Mapped {
     pub slices: usize,
     pub length: usize,
 }
 
-#[derive(Clone, Copy)]
-pub enum Mapping {
-    Mapped(Mapped),
-    Refused(Refusal),
-}
-
-// Steps 1 to 8, then 10, for a store of so many slices.
-pub fn judge(file: &[u8], stream: StreamNumber, limit: Limit, room: usize) -> Measured
+/// Steps 1 to 8, then 10, for a store of so many slices.
+#[tactic(auto, using(crate::proofs::MappingLaws::judge_cases))]
+pub fn judge(
+    file: &[u8],
+    stream: StreamNumber,
+    limit: Option<usize>,
+    room: usize,
+) -> Result<Extent, Refusal>
     ensures { Judging (byte_at file.now) (length file.now) stream.0 limit room result }
 {
-    fit(file, measure(file, stream, limit), room)
+    fit(file, measure(file, stream, limit)?, room)
 }
 
-// What was measured, or 10 if its slices have no room. There are no more slices than pages, so they are counted only if
-// the store is shorter than that.
-pub fn fit(file: &[u8], measured: Measured, room: usize) -> Measured
-    requires { Sound (byte_at file.now) (length file.now) measured }
-    ensures { Fitting (byte_at file.now) (length file.now) room measured result }
+/// These bytes, or 10 if their slices have no room. There are no more slices than pages, so they are counted only if the
+/// store is shorter than that.
+#[tactic(auto, using(crate::proofs::MappingLaws::fit_cases))]
+pub fn fit(file: &[u8], x: Extent, room: usize) -> Result<Extent, Refusal>
+    requires extends { Extends x }
+    requires entries_lie { EntriesLie (byte_at file.now) (length file.now) x }
+    ensures { Fitting (byte_at file.now) (length file.now) room x result }
 {
-    let Measured::Extent(x) = measured else {
-        return measured;
-    };
     if x.pages <= room {
-        return measured;
+        return Ok(x);
     }
     let needed = count_slices(file, x);
     if room < needed {
-        return Measured::Refused(Refusal::NoRoom(needed));
+        return Err(Refusal::NoRoom(needed));
     }
-    measured
+    Ok(x)
 }
 
-// The slices of what was judged go to the front of the two stores. The caller guarantees room.
-pub fn write_judged(
-    file: &[u8],
-    judged: Measured,
-    offsets: &mut [u64],
-    sizes: &mut [u64],
-) -> Mapping
-    requires { Judged (byte_at file.now) (length file.now) (min (length offsets.old) (length sizes.old)) judged }
-    ensures { Puts (byte_at file.now) judged
-        offsets.old sizes.old result offsets.new sizes.new }
+/// The slices of what was judged go to the front of the two stores. The caller guarantees room.
+#[tactic(auto, using(crate::proofs::MappingLaws::write_cases))]
+pub fn write_judged(file: &[u8], x: Extent, offsets: &mut [u64], sizes: &mut [u64]) -> Mapped
+    requires { Writable (byte_at file.now) (length file.now) (min (length offsets.old) (length sizes.old)) x }
+    ensures { Puts (byte_at file.now) x offsets.old sizes.old result offsets.new sizes.new }
 {
-    let Measured::Extent(x) = judged else {
-        return Mapping::Refused(judged.why());
-    };
     let slices = write_slices(file, x, offsets, sizes);
-    Mapping::Mapped(Mapped {
+    Mapped {
         slices,
         length: x.bytes,
-    })
+    }
 }

@@ -1,6 +1,5 @@
 -- What inner functions promise their callers.
-use Rattle.std.specs.Prelude.{◌≡◌, List, ℕ, ◌+◌, ◌≤◌, ◌<◌, length, get_or}
-use Rattle.outcome.specs.Outcome.{ok}
+use Rattle.std.specs.Prelude.{◌≡◌, List, ℕ, ◌+◌, ◌≤◌, ◌<◌, length, get_or, Ok}
 use Rattle.parse_buffer.specs.Bytes.{File}
 use Rattle.paged.specs.Checks.{lies_in_file}
 use Rattle.extent.specs.Extent.{page_in}
@@ -12,7 +11,7 @@ abbrev pub bytes_of : File → Extent → List ℕ
 bytes_of f x = bytes_through f x.pagesize (page_in f x) x.bytes
 
 pub record LiesIn (f : File) (len : ℕ) (x : Extent) : Type 0 where
-  pub is : lies_in_file len x.pagesize (page_in f x) x.bytes x.pages ≡ ok tt
+  pub is : lies_in_file len x.pagesize (page_in f x) x.bytes x.pages ≡ Ok tt
 
 -- ---- `copy`: n bytes of one list, from a place on, stand in the other, and all else there is as it was
 pub record Copied (s : List ℕ) (from : ℕ) (o : List ℕ) (to n : ℕ) (o' : List ℕ) : Type 0 where

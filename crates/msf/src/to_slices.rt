@@ -3,22 +3,22 @@ ghost use Rattle.std.specs.Prelude.{length};
 ghost use Rattle.parse_buffer.specs.Bytes.{byte_at};
 ghost use Rattle.msf.specs.Promises.{Maps};
 
-use extent::Limit;
-use mapping::{Mapping, judge, write_judged};
-use paged::{StreamNumber, least};
+use mapping::{Mapped, judge, write_judged};
+use paged::{Refusal, StreamNumber};
 
-// Steps 1 to 8, then 10.
+/// Steps 1 to 8, then 10.
+#[tactic(auto, using(crate::proofs::MsfLaws::map_room))]
 pub fn map(
     file: &[u8],
     stream: StreamNumber,
-    limit: Limit,
+    limit: Option<usize>,
     offsets: &mut [u64],
     sizes: &mut [u64],
-) -> Mapping
+) -> Result<Mapped, Refusal>
     ensures { Maps (byte_at file.now) (length file.now) stream.0 limit
         offsets.old sizes.old result offsets.new sizes.new }
 {
-    let room = least(offsets.len(), sizes.len());
-    let judged = judge(file, stream, limit, room);
-    write_judged(file, judged, offsets, sizes)
+    let room = offsets.len().min(sizes.len());
+    let x = judge(file, stream, limit, room)?;
+    Ok(write_judged(file, x, offsets, sizes))
 }

@@ -1,12 +1,13 @@
 -- What the part of a stage promises its callers.
-use Rattle.std.specs.Prelude.{◌≡◌, ℕ}
-use Rattle.outcome.specs.Outcome.{ok, ◌>>=◌}
+use Rattle.std.specs.Prelude.{◌≡◌, ℕ, Result, Ok}
+use Rattle.outcome.specs.Outcome.{◌>>=◌}
 use Rattle.parse_buffer.specs.Bytes.{File}
 use Rattle.paged.specs.PageSize.{need}
+use Rattle.paged.specs.Refusal.{told}
+use Rattle.paged.specs.declared.refusal.Refusal.{Refusal}
 use Rattle.header.specs.declared.Header.{Header}
-use Rattle.extent.specs.Inner.{measured_in, Sound}
+use Rattle.extent.specs.Inner.{Sound}
 use Rattle.extent.specs.declared.Extent.{Extent}
-use Rattle.extent.specs.declared.Measured.{Measured}
 use Rattle.needed.specs.Needed.{placed, pages_at, bytes_at}
 use Rattle.needed.specs.declared.Stage.{Stage}
 
@@ -21,6 +22,6 @@ extent_at stage h =
     }
 
 -- ---- `part_of`, `location_list` and `directory`
-pub record Parting (f : File) (len : ℕ) (stage : Stage) (r : Measured) : Type 0 where
-  pub answer : measured_in r ≡ (placed f len stage >>= λ h. ok (extent_at stage h))
+pub record Parting (f : File) (len : ℕ) (stage : Stage) (r : Result Extent Refusal) : Type 0 where
+  pub answer : told r ≡ (placed f len stage >>= λ h. Ok (extent_at stage h))
   pub sound : Sound f len r

@@ -1,7 +1,7 @@
 -- The parts of the file that mapping reads before it comes to the stream: the location list (document 01, step 4) and
 -- the directory (step 5). Each is a paged object, and its slices are made by the rule for a stream's.
-use Rattle.std.specs.Prelude.{ℕ, ◌*◌, List, leb, length}
-use Rattle.outcome.specs.Outcome.{Outcome, ok, ◌>>=◌, ◌>>◌, require}
+use Rattle.std.specs.Prelude.{ℕ, ◌*◌, List, leb, length, Result, Ok}
+use Rattle.outcome.specs.Outcome.{◌>>=◌, ◌>>◌, require}
 use Rattle.outcome.specs.Refusal as paper
 use Rattle.parse_buffer.specs.Bytes.{File}
 use Rattle.paged.specs.Refusal.{refusal_in}
@@ -20,7 +20,7 @@ use Rattle.needed.specs.declared.Stage.{Stage}
 use Rattle.needed.specs.declared.Stage.TheVariants.{LocationList, Directory}
 
 -- steps 1 to 3 say where the location list is, steps 1 to 4 where the directory is
-unfoldable pub placed : File → ℕ → Stage → Outcome paper.Refusal Header
+unfoldable pub placed : File → ℕ → Stage → Result Header paper.Refusal
 placed f len LocationList = located f len
 placed f len Directory = listed f len
 
@@ -41,14 +41,14 @@ slices_at f stage h =
     (slices_of h.pagesize (page_of f h.pagesize (pages_at stage)) (need h.pagesize (bytes_at stage h)))
 
 -- the steps, then 10: "Room is judged after the cut and counts slices"
-unfoldable pub needing : File → ℕ → Stage → ℕ → Outcome paper.Refusal Header
+unfoldable pub needing : File → ℕ → Stage → ℕ → Result Header paper.Refusal
 needing f len stage room = do
   h ← placed f len stage
   require (leb (length (slices_at f stage h)) room) (refusal_in (NoRoom (length (slices_at f stage h))))
-  ok h
+  Ok h
 
 -- as mapping does, it answers slice count and length
-unfoldable pub needed : File → Stage → Outcome paper.Refusal Header → Outcome paper.Refusal Mapped
+unfoldable pub needed : File → Stage → Result Header paper.Refusal → Result Mapped paper.Refusal
 needed f stage o = do
   h ← o
-  ok (record { slices = length (slices_at f stage h); length = bytes_at stage h })
+  Ok (record { slices = length (slices_at f stage h); length = bytes_at stage h })

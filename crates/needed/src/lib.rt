@@ -12,29 +12,35 @@ ghost use Rattle.needed.specs.Promises.{Needs};
 ghost use Rattle.needed.specs.declared.Stage.TheVariants as stages;
 
 use directory::list;
-use extent::{Extent, Measured};
-use header::{Headed, locate};
-use mapping::{Mapping, fit, write_judged};
-use paged::{Pages, least, pages_needed_to_store};
+use extent::Extent;
+use header::locate;
+use mapping::{Mapped, fit, write_judged};
+use paged::{Pages, Refusal, pages_needed_to_store};
 
-#[derive(Clone, Copy)]
+#[derive(Clone, Copy, Debug, PartialEq, Eq)]
 pub enum Stage {
     LocationList,
     Directory,
 }
 
-// The slices of a stage's part. Steps 1 to 3 for the location list, 1 to 4 for the directory, then 10.
-pub fn needed_to_map(file: &[u8], stage: Stage, offsets: &mut [u64], sizes: &mut [u64]) -> Mapping
+/// The slices of a stage's part. Steps 1 to 3 for the location list, 1 to 4 for the directory, then 10.
+pub fn needed_to_map(
+    file: &[u8],
+    stage: Stage,
+    offsets: &mut [u64],
+    sizes: &mut [u64],
+) -> Result<Mapped, Refusal>
     ensures { Needs (byte_at file.now) (length file.now) stage
         offsets.old sizes.old result offsets.new sizes.new }
 {
-    let room = least(offsets.len(), sizes.len());
-    let judged = fit(file, part_of(file, stage), room);
-    write_judged(file, judged, offsets, sizes)
+    let room = offsets.len().min(sizes.len());
+    let part = part_of(file, stage)?;
+    let x = fit(file, part, room)?;
+    Ok(write_judged(file, x, offsets, sizes))
 }
 
 // A stage's part.
-fn part_of(file: &[u8], stage: Stage) -> Measured
+fn part_of(file: &[u8], stage: Stage) -> Result<Extent, Refusal>
     ensures { Parting (byte_at file.now) (length file.now) stage result }
 {
     match stage {
@@ -44,18 +50,16 @@ fn part_of(file: &[u8], stage: Stage) -> Measured
 }
 
 // The location list, after steps 1 to 3: the first 4*D bytes of its pages.
-fn location_list(file: &[u8]) -> Measured
+#[tactic(auto, using(paged::proofs::SizeLaws::need_le, crate::proofs::NeededLaws::list_none))]
+fn location_list(file: &[u8]) -> Result<Extent, Refusal>
     ensures { Parting (byte_at file.now) (length file.now) stages.LocationList result }
 {
-    let located = locate(file);
-    let Headed::Container(h) = located else {
-        return Measured::Refused(located.why());
-    };
+    let h = locate(file)?;
     let pagesize = h.pagesize as usize;
     let named = pages_needed_to_store(pagesize, h.directory as usize);
     let bytes = 4 * named;
     let pages = pages_needed_to_store(pagesize, bytes);
-    Measured::Extent(Extent {
+    Ok(Extent {
         pagesize,
         list: Pages::Location,
         bytes,
@@ -64,17 +68,15 @@ fn location_list(file: &[u8]) -> Measured
 }
 
 // The directory, after steps 1 to 4: the first directory_size bytes of its pages.
-fn directory(file: &[u8]) -> Measured
+#[tactic(auto, using(crate::proofs::NeededLaws::directory_none))]
+fn directory(file: &[u8]) -> Result<Extent, Refusal>
     ensures { Parting (byte_at file.now) (length file.now) stages.Directory result }
 {
-    let listed = list(file);
-    let Headed::Container(h) = listed else {
-        return Measured::Refused(listed.why());
-    };
+    let h = list(file)?;
     let pagesize = h.pagesize as usize;
     let bytes = h.directory as usize;
     let pages = pages_needed_to_store(pagesize, bytes);
-    Measured::Extent(Extent {
+    Ok(Extent {
         pagesize,
         list: Pages::Directory,
         bytes,

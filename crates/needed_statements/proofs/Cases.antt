@@ -1,7 +1,7 @@
 -- File F's parts, by computation.
 use mathlib.Core.Path.{refl}
 use lib.Count
-use Rattle.outcome.specs.Outcome.{◌>>=◌, ◌>>◌, require}
+use Rattle.outcome.specs.Outcome.{and_next, and_then, require}
 use Rattle.outcome.specs.Each.{each}
 use Rattle.parse_buffer.specs.Bytes.{word}
 use Rattle.paged.specs.PageSize.{size_is_fit, need}
@@ -15,7 +15,7 @@ use Rattle.container_statements.specs.FileF.{file_f, F}
 use Rattle.needed_statements.specs.Cases.{Cases, needed_of}
 
 pub cases : Cases
-unfolding needed_of F file_f ◌>>=◌ ◌>>◌ require each word size_is_fit need location directory_page page_fits stands_at sized headed located listed placed needing lengthen slices_of cut Count.ones Count.ones_in
+unfolding needed_of F file_f and_then and_next require each word size_is_fit need location directory_page page_fits stands_at sized headed located listed placed needing lengthen slices_of cut Count.ones Count.ones_in
 cases =
     record {
       location_list = refl;

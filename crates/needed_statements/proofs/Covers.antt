@@ -5,7 +5,7 @@ use mathlib.Core.Path.{◌≡◌, ◌∙◌}
 use Prim.Native.Nat.{ℕ, ◌+◌, ◌-◌, ◌*◌, ◌/◌, ◌%◌, ◌≤◌, ◌<◌}
 use native.Mathlib.Omega.{arith}
 use native.Mathlib.Nat.{div-add-mod'}
-use Rattle.outcome.specs.Outcome.{ok}
+use Rattle.std.specs.Prelude.{Ok}
 use Rattle.parse_buffer.specs.Bytes.{File}
 use Rattle.paged.specs.PageSize.{PageSize}
 use Rattle.paged.specs.Pages.{through, page_of}
@@ -31,7 +31,7 @@ word_byte p page s w d l =
     rw (at.0, at.1) (omega arith)
 
 -- a word that is all in a part: each of its bytes is named
-word_named : (f : File) (len : ℕ) (stage : Stage) {h : Header} → placed f len stage ≡ ok h → (w i : ℕ) → 4 * w + 4 ≤ bytes_at stage h → InWord (through h.pagesize (page_of f h.pagesize (pages_at stage)) (4 * w)) i → Named (slices_at f stage h) i
+word_named : (f : File) (len : ℕ) (stage : Stage) {h : Header} → placed f len stage ≡ Ok h → (w i : ℕ) → 4 * w + 4 ≤ bytes_at stage h → InWord (through h.pagesize (page_of f h.pagesize (pages_at stage)) (4 * w)) i → Named (slices_at f stage h) i
 word_named f len stage {h} e w i l m =
     let page : ℕ → ℕ = page_of f h.pagesize (pages_at stage) in
     let d : ℕ = i - through h.pagesize page (4 * w) in

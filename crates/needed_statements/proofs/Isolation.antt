@@ -5,7 +5,7 @@ use mathlib.Core.List.{List, map}
 use Prim.Native.Nat.{ℕ, min, ◌<◌}
 use native.Mathlib.Omega.{arith}
 use lib.ListN.{length}
-use Rattle.outcome.specs.Outcome.{ok}
+use Rattle.std.specs.Prelude.{Ok, Result}
 use Rattle.outcome.specs.Store.{written}
 use Rattle.outcome.proofs.OutcomeLaws.{came, came_by, bind_same, written_same}
 use Rattle.parse_buffer.specs.Bytes.{File}
@@ -14,7 +14,6 @@ use Rattle.paged.specs.Pages.{page_of}
 use Rattle.header.specs.declared.Header.{Header}
 use Rattle.directory.proofs.DirectoryLaws.{listed_at}
 use Rattle.slices.specs.declared.SourceSlice.{SourceSlice}
-use Rattle.mapping.specs.declared.Mapping.{Mapping}
 use Rattle.needed.specs.Needed.{placed, pages_at, bytes_at, slices_at, needing, needed}
 use Rattle.needed.specs.Promises.{Needs}
 use Rattle.needed.specs.declared.Stage.{Stage}
@@ -26,6 +25,8 @@ use Rattle.isolation.proofs.Same.{AgreeOnList, located_same, location_same, entr
 use Rattle.isolation.proofs.StreamSame.{slices_same}
 use Rattle.needed_statements.specs.Isolation.{ListedList, ListedStage, Isolation}
 use Rattle.needed_statements.proofs.Statements.{single_valued}
+use Rattle.mapping.specs.declared.Mapped.{Mapped}
+use Rattle.paged.specs.declared.refusal.Refusal.{Refusal}
 
 module _ (f g : File) (len : ℕ) (agree : Agree (ListedList f len) f g) where
   pub list_opens : Agree (ListedOpen f len) f g
@@ -40,7 +41,7 @@ placed_same f g len LocationList agree = located_same f g len agree
 placed_same f g len Directory agree = listed_same f g len (list_opens f g len agree) (on_list f g len agree)
 
 -- the numbers of a part's pages
-pub pages_same : (f g : File) (len : ℕ) (stage : Stage) → Agree (ListedStage f len stage) f g → {h : Header} → placed f len stage ≡ ok h → (j : ℕ) → j < need h.pagesize (bytes_at stage h) → page_of f h.pagesize (pages_at stage) j ≡ page_of g h.pagesize (pages_at stage) j
+pub pages_same : (f g : File) (len : ℕ) (stage : Stage) → Agree (ListedStage f len stage) f g → {h : Header} → placed f len stage ≡ Ok h → (j : ℕ) → j < need h.pagesize (bytes_at stage h) → page_of f h.pagesize (pages_at stage) j ≡ page_of g h.pagesize (pages_at stage) j
 unfolding placed
 pages_same f g len LocationList agree e j l = location_same f g len agree e j l
 pages_same f g len Directory agree e j l =
@@ -48,7 +49,7 @@ pages_same f g len Directory agree e j l =
     entry_same f g len (list_opens f g len agree) (on_list f g len agree) at.located at.list j l
 
 module _ (f g : File) (len : ℕ) (stage : Stage) (agree : Agree (ListedStage f len stage) f g) where
-  slices_as : {h : Header} → placed f len stage ≡ ok h → slices_at f stage h ≡ slices_at g stage h
+  slices_as : {h : Header} → placed f len stage ≡ Ok h → slices_at f stage h ≡ slices_at g stage h
   slices_as {h} e = rw (slices_same h.pagesize (need h.pagesize (bytes_at stage h)) (pages_same f g len stage agree e))
 
   module _ (room : ℕ) where
@@ -56,7 +57,7 @@ module _ (f g : File) (len : ℕ) (stage : Stage) (agree : Agree (ListedStage f 
     unfolding needing
     needing_same = bind_same (placed_same f g len stage agree) λ h o. rw (slices_as o)
 
-    needing_slices : {h : Header} → needing f len stage room ≡ ok h → slices_at f stage h ≡ slices_at g stage h
+    needing_slices : {h : Header} → needing f len stage room ≡ Ok h → slices_at f stage h ≡ slices_at g stage h
     unfolding needing
     needing_slices e =
         came_by _ _ e λ y o e₁.
@@ -74,7 +75,7 @@ module _ (f g : File) (len : ℕ) (stage : Stage) (agree : Agree (ListedStage f 
     abbrev room : ℕ
     room = min (length offsets) (length sizes)
 
-    needs_as : (r : Mapping) (o t : List ℕ) → Needs g len stage offsets sizes r o t → Needs f len stage offsets sizes r o t
+    needs_as : (r : Result Mapped Refusal) (o t : List ℕ) → Needs g len stage offsets sizes r o t → Needs f len stage offsets sizes r o t
     needs_as r o t p =
         record {
           answer = p.answer ∙ sym (needed_same room);

@@ -6,7 +6,7 @@ use native.Mathlib.Omega.{arith}
 use native.Mathlib.Nat.{zero-add}
 use lib.Dec.{leb}
 use borrow.Author.Tests.{le-leb}
-use Rattle.outcome.specs.Outcome.{ok}
+use Rattle.std.specs.Prelude.{Ok}
 use Rattle.outcome.proofs.EachLaws.{each_none, each_run}
 use Rattle.parse_buffer.specs.Bytes.{File}
 use Rattle.paged.specs.Refusal.{refusal_in}
@@ -29,12 +29,12 @@ use Rattle.isolation.specs.Listed.{Named}
 use Rattle.isolation.proofs.NamedExactly.{named, byte_of}
 use Rattle.needed_statements.specs.Statements.{PartByte, PartExactly, part_lies}
 
-pub placed_size : (f : File) (len : ℕ) (stage : Stage) {h : Header} → placed f len stage ≡ ok h → PageSize h.pagesize
+pub placed_size : (f : File) (len : ℕ) (stage : Stage) {h : Header} → placed f len stage ≡ Ok h → PageSize h.pagesize
 unfolding placed
 placed_size f len LocationList e = (is_located f len e).size
 placed_size f len Directory e = (listed_at f len e).size
 
-module _ (f : File) (len : ℕ) (stage : Stage) {h : Header} (e : placed f len stage ≡ ok h) where
+module _ (f : File) (len : ℕ) (stage : Stage) {h : Header} (e : placed f len stage ≡ Ok h) where
   abbrev page : ℕ → ℕ
   page = page_of f h.pagesize (pages_at stage)
 
@@ -66,7 +66,7 @@ module _ (f : File) (len : ℕ) (stage : Stage) {h : Header} (e : placed f len s
       record { index = b.index; below = omega (arith, l); at = sym b.at ∙ part_place b.index l }
 
   -- ---- it lies in the file exactly if all that is named does
-  pub lies_named : part_lies f len stage h ≡ ok tt → (i : ℕ) → Named (slices_at f stage h) i → i < len
+  pub lies_named : part_lies f len stage h ≡ Ok tt → (i : ℕ) → Named (slices_at f stage h) i → i < len
   lies_named lies i m =
       let b = part_byte i m in
       rw b.at (lies_byte len h.pagesize page n some lies b.index b.below)
@@ -82,7 +82,7 @@ module _ (f : File) (len : ℕ) (stage : Stage) {h : Header} (e : placed f len s
       let here : through h.pagesize page (j * h.pagesize + r) ≡ page j * h.pagesize + r = rw (at.0, at.1) in
       omega (arith, rw here at m)
 
-  pub named_lies : ((i : ℕ) → Named (slices_at f stage h) i → i < len) → part_lies f len stage h ≡ ok tt
+  pub named_lies : ((i : ℕ) → Named (slices_at f stage h) i → i < len) → part_lies f len stage h ≡ Ok tt
   named_lies inside =
       rw zero-add at
       (each_run (λ j. leb (page j * h.pagesize + wanted h.pagesize n j) len) (λ _. refusal_in FileEnds) 0

@@ -1,19 +1,16 @@
 -- First from f to g at the length of f, by demand 3; then, of g, to its own length (`SameLength`). The length of f holds the
 -- parts of g because it holds those of f, and these are the same.
+use Rattle.std.specs.Prelude.{Option, Result}
 use mathlib.Core.Path.{◌≡◌, sym, ◌∙◌}
 use mathlib.Core.List.{List}
 use Prim.Native.Nat.{ℕ, min}
 use lib.ListN.{length}
 use Rattle.parse_buffer.specs.Bytes.{File}
-use Rattle.extent.specs.declared.limit.Limit.{Limit}
 use Rattle.header.specs.Promises.{Opening}
-use Rattle.header.specs.declared.Opened.{Opened}
 use Rattle.directory.specs.Directory.{stream_count}
 use Rattle.directory.specs.Promises.{Counting}
-use Rattle.directory.specs.declared.Counted.{Counted}
 use Rattle.slices.specs.declared.SourceSlice.{SourceSlice}
 use Rattle.mapping.specs.Mapping.{mapping}
-use Rattle.mapping.specs.declared.Mapping.{Mapping}
 use Rattle.msf.specs.Promises.{Maps}
 use Rattle.slice_store.specs.Promises.{MapsInto}
 use Rattle.needed.specs.Needed.{needing}
@@ -29,6 +26,9 @@ use Rattle.needed_statements.specs.Isolation.{ListedList, ListedStage, needs}
 use Rattle.needed_statements.specs.Prefix.{Holds, Prefix}
 use Rattle.needed_statements.proofs.Isolation as stages
 use Rattle.needed_statements.proofs.SameLength.{Lies, holds_lies, opening_len, list_len, directory_len, stream_count_len, mapping_len}
+use Rattle.header.specs.declared.Container.{Container}
+use Rattle.paged.specs.declared.refusal.Refusal.{Refusal}
+use Rattle.mapping.specs.declared.Mapped.{Mapped}
 
 -- each list has the one before
 as_list : (f g : File) (len : ℕ) → Agree (ListedCount f len) f g → Agree (ListedList f len) f g
@@ -67,20 +67,20 @@ module _ (f g : File) (len len' : ℕ) (long : Holds f len) (long' : Holds g len
         stream_count_len g len' len long'.block long.block (holds_lies long' LocationList) list
         (holds_lies long' Directory) directory
 
-    mapping_as : (k : ℕ) (limit : Limit) (room : ℕ) → mapping g len' k limit room ≡ mapping g len k limit room
+    mapping_as : (k : ℕ) (limit : Option ℕ) (room : ℕ) → mapping g len' k limit room ≡ mapping g len k limit room
     mapping_as =
         mapping_len g len' len long'.block long.block (holds_lies long' LocationList) list
         (holds_lies long' Directory) directory
 
   -- ---- what g answers at its own length it answers at that of f
-  opening_at : (r : Opened) → Opening g len' r → Opening g len r
+  opening_at : (r : Result Container Refusal) → Opening g len' r → Opening g len r
   opening_at r q = record { answer = q.answer ∙ opening_len g len' len long'.block long.block }
 
   module _ (stage : Stage) (agree : Agree (ListedStage f len stage) f g) (offsets sizes : List ℕ) where
     abbrev needing_is : needing g len' stage (min (length offsets) (length sizes)) ≡ needing g len stage (min (length offsets) (length sizes))
     needing_is = needing_as stage agree (min (length offsets) (length sizes))
 
-    needs_at : (r : Mapping) (o t : List ℕ) → Needs g len' stage offsets sizes r o t → Needs g len stage offsets sizes r o t
+    needs_at : (r : Result Mapped Refusal) (o t : List ℕ) → Needs g len' stage offsets sizes r o t → Needs g len stage offsets sizes r o t
     needs_at r o t q =
         record {
           answer = rw (← needing_is) q.answer;
@@ -97,18 +97,18 @@ module _ (f g : File) (len len' : ℕ) (long : Holds f len) (long' : Holds g len
         }
 
   module _ (agree : Agree (ListedCount f len) f g) where
-    counting_at : (r : Counted) → Counting g len' r → Counting g len r
+    counting_at : (r : Result ℕ Refusal) → Counting g len' r → Counting g len r
     counting_at r q = record { answer = q.answer ∙ counting_as agree }
 
     counts_at : (r : ℕ × ℕ) → counts g len' r → counts g len r
     counts_at r q = record { answer = rw (← counting_as agree) q.answer }
 
-  module _ (k : ℕ) (limit : Limit) (agree : Agree (ListedMap f len k) f g) where
+  module _ (k : ℕ) (limit : Option ℕ) (agree : Agree (ListedMap f len k) f g) where
     abbrev mapping_is : (room : ℕ) → mapping g len' k limit room ≡ mapping g len k limit room
     mapping_is = mapping_as (as_count f g len k agree) k limit
 
     module _ (offsets sizes : List ℕ) where
-      maps_at : (r : Mapping) (o t : List ℕ) → Maps g len' k limit offsets sizes r o t → Maps g len k limit offsets sizes r o t
+      maps_at : (r : Result Mapped Refusal) (o t : List ℕ) → Maps g len' k limit offsets sizes r o t → Maps g len k limit offsets sizes r o t
       maps_at r o t q =
           record {
             answer = rw (← mapping_is (min (length offsets) (length sizes))) q.answer;
@@ -124,7 +124,7 @@ module _ (f g : File) (len len' : ℕ) (long : Holds f len) (long' : Holds g len
             sizes_after = rw (← mapping_is (min (length offsets) (length sizes))) q.sizes_after;
           }
 
-    maps_into_at : (store : List SourceSlice) (r : Mapping) (s : List SourceSlice) → MapsInto g len' k limit store r s → MapsInto g len k limit store r s
+    maps_into_at : (store : List SourceSlice) (r : Result Mapped Refusal) (s : List SourceSlice) → MapsInto g len' k limit store r s → MapsInto g len k limit store r s
     maps_into_at store r s q =
         record {
           answer = rw (← mapping_is (length store)) q.answer;

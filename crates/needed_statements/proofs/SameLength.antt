@@ -3,7 +3,7 @@
 use mathlib.Core.Path.{◌≡◌, refl, sym, ◌∙◌}
 use Prim.Native.Nat.{ℕ, ◌≤◌}
 use borrow.Author.Tests.{le-leb}
-use Rattle.outcome.specs.Outcome.{ok}
+use Rattle.std.specs.Prelude.{Ok, Option}
 use Rattle.outcome.proofs.OutcomeLaws.{bind_same, then_same}
 use Rattle.parse_buffer.specs.Bytes.{File}
 use Rattle.header.specs.Header.{header_block, headed, located, opening}
@@ -11,7 +11,6 @@ use Rattle.header.specs.declared.Header.{Header}
 use Rattle.directory.specs.Directory.{listed, reached, stream_count}
 use Rattle.stream.specs.Stream.{present, skipped_to, found}
 use Rattle.extent.specs.Extent.{asked}
-use Rattle.extent.specs.declared.limit.Limit.{Limit}
 use Rattle.mapping.specs.Mapping.{mapping}
 use Rattle.needed.specs.Needed.{placed, needing}
 use Rattle.needed.specs.declared.Stage.{Stage}
@@ -22,7 +21,7 @@ use Rattle.needed_statements.proofs.Parts.{named_lies}
 
 -- a length that holds a stage's part, if the stage is reached
 pub record Lies (f : File) (len : ℕ) (stage : Stage) : Type 0 where
-  pub is : {h : Header} → placed f len stage ≡ ok h → part_lies f len stage h ≡ ok tt
+  pub is : {h : Header} → placed f len stage ≡ Ok h → part_lies f len stage h ≡ Ok tt
 
 pub holds_lies : {f : File} {len : ℕ} → Holds f len → (stage : Stage) → Lies f len stage
 holds_lies {f} {len} long stage = record { is = λ e. named_lies f len stage e (long.parts stage e) }
@@ -84,6 +83,6 @@ module _ (f : File) (a b : ℕ) (block : header_block ≤ a) (block' : header_bl
         unfolding found
         found_len = rw skipped_len
 
-        pub mapping_len : (limit : Limit) (room : ℕ) → mapping f a k limit room ≡ mapping f b k limit room
+        pub mapping_len : (limit : Option ℕ) (room : ℕ) → mapping f a k limit room ≡ mapping f b k limit room
         unfolding mapping asked
         mapping_len limit room = rw found_len

@@ -1,7 +1,6 @@
 -- Demand 3, of `needed_to_map` and of the function that Rust and C call: two files of equal length that agree on what a
 -- stage reads, by document 01's list, give the same answer and the same stores afterwards.
-use Rattle.std.specs.Prelude.{◌≡◌, List, ℕ, ◌<◌}
-use Rattle.outcome.specs.Outcome.{ok}
+use Rattle.std.specs.Prelude.{◌≡◌, List, ℕ, ◌<◌, Ok}
 use Rattle.parse_buffer.specs.Bytes.{File}
 use Rattle.header.specs.Header.{directory_pages, located}
 use Rattle.header.specs.declared.Header.{Header}
@@ -15,7 +14,7 @@ use Rattle.isolation.specs.Isolation.{Equal, Equal₃}
 -- of the location list, what opening reads; of the directory, then, if that stage is reached, the location list too
 pub data ListedList (f : File) (len : ℕ) : ℕ → Type 0 where
   opening : {i : ℕ} → ListedOpen f len i → ListedList f len i
-  list : {i j : ℕ} {h : Header} → located f len ≡ ok h → list_lies f len h ≡ ok tt → j < directory_pages h →
+  list : {i j : ℕ} {h : Header} → located f len ≡ Ok h → list_lies f len h ≡ Ok tt → j < directory_pages h →
       InWord (entry_place f h j) i → ListedList f len i
 
 abbrev pub ListedStage : File → ℕ → Stage → ℕ → Type 0

@@ -1,7 +1,7 @@
 -- What holds of `needed_to_map` beyond its promise: no second answer; which places the slices name; how its refusals
 -- stand to those of the stream count and of mapping. proofs/ has a proof of each record.
-use Rattle.std.specs.Prelude.{◌≡◌, ◌↔◌, List, ℕ, ◌<◌}
-use Rattle.outcome.specs.Outcome.{Outcome, ok, refused, ◌>>◌}
+use Rattle.std.specs.Prelude.{◌≡◌, ◌↔◌, List, ℕ, ◌<◌, Result, Ok, Err}
+use Rattle.outcome.specs.Outcome.{◌>>◌}
 use Rattle.outcome.specs.Refusal as paper
 use Rattle.outcome.specs.Only.{Only, Only₃}
 use Rattle.parse_buffer.specs.Bytes.{File}
@@ -36,12 +36,12 @@ pub record PartByte (f : File) (stage : Stage) (h : Header) (i : ℕ) : Type 0 w
 
 -- the slices of a part name its bytes, no fewer and no more; none is empty, and they are as long as the answer says
 pub record PartExactly (f : File) (len : ℕ) (stage : Stage) : Type 0 where
-  pub is : {h : Header} → placed f len stage ≡ ok h → (i : ℕ) → Named (slices_at f stage h) i ↔ PartByte f stage h i
-  pub full : {h : Header} → placed f len stage ≡ ok h → Full (slices_at f stage h)
-  pub length : {h : Header} → placed f len stage ≡ ok h → total (slices_at f stage h) ≡ bytes_at stage h
+  pub is : {h : Header} → placed f len stage ≡ Ok h → (i : ℕ) → Named (slices_at f stage h) i ↔ PartByte f stage h i
+  pub full : {h : Header} → placed f len stage ≡ Ok h → Full (slices_at f stage h)
+  pub length : {h : Header} → placed f len stage ≡ Ok h → total (slices_at f stage h) ≡ bytes_at stage h
 
 -- refusal 6, of a part's own bytes
-abbrev pub part_lies : File → ℕ → Stage → Header → Outcome paper.Refusal (Unit {0})
+abbrev pub part_lies : File → ℕ → Stage → Header → Result (Unit {0}) paper.Refusal
 part_lies f len stage h =
     lies_in_file len h.pagesize (page_of f h.pagesize (pages_at stage)) (bytes_at stage h)
     (need h.pagesize (bytes_at stage h))
@@ -49,12 +49,12 @@ part_lies f len stage h =
 -- with the 6 that is found when the part is read, the refusals of the stages are those of steps 1 to 5
 pub record Refusals (f : File) (len : ℕ) : Type 0 where
   -- what refuses the location list refuses the directory, and what refuses the directory refuses steps 1 to 5
-  pub list : {why : paper.Refusal} → placed f len LocationList ≡ refused why → placed f len Directory ≡ refused why
-  pub directory : {why : paper.Refusal} → placed f len Directory ≡ refused why → reached f len ≡ refused why
+  pub list : {why : paper.Refusal} → placed f len LocationList ≡ Err why → placed f len Directory ≡ Err why
+  pub directory : {why : paper.Refusal} → placed f len Directory ≡ Err why → reached f len ≡ Err why
   -- otherwise these are refused only where the directory is not all in the file
-  pub rest : {h : Header} → placed f len Directory ≡ ok h → reached f len ≡ (part_lies f len Directory h >> ok h)
+  pub rest : {h : Header} → placed f len Directory ≡ Ok h → reached f len ≡ (part_lies f len Directory h >> Ok h)
   -- that is, where a slice names a place past the file; and it is refused with 6
-  pub held : (stage : Stage) {h : Header} → placed f len stage ≡ ok h →
-      (part_lies f len stage h ≡ ok tt) ↔ ((i : ℕ) → Named (slices_at f stage h) i → i < len)
-  pub six : (stage : Stage) (h : Header) {why : paper.Refusal} → part_lies f len stage h ≡ refused why →
+  pub held : (stage : Stage) {h : Header} → placed f len stage ≡ Ok h →
+      (part_lies f len stage h ≡ Ok tt) ↔ ((i : ℕ) → Named (slices_at f stage h) i → i < len)
+  pub six : (stage : Stage) (h : Header) {why : paper.Refusal} → part_lies f len stage h ≡ Err why →
       why ≡ refusal_in FileEnds

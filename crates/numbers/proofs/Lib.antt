@@ -1,5 +1,4 @@
 pub mod FormLaws
-pub mod NumberLaws
 pub mod MoveLaws
 pub mod PrefixLaws
 pub mod ShiftLaws

@@ -7,7 +7,7 @@ use native.Mathlib.Omega.{arith}
 use borrow.Author.Tests.{le-leb, leb-true}
 use lib.Dec.{leb, ltb}
 use lib.ListN.{length, get_or, length-append, get_or-append}
-use Rattle.outcome.specs.Outcome.{Outcome, refused}
+use Rattle.std.specs.Prelude.{Result, Err}
 use Rattle.outcome.proofs.OutcomeLaws.{by_test}
 use Rattle.numbers.specs.Refusal.{Stop, stop}
 use Rattle.numbers.specs.Number.{number_at}
@@ -16,9 +16,9 @@ use Rattle.numbers.specs.declared.number.Number.{Number}
 
 module _ (s t : List ℕ) (at : ℕ) where
   -- the answer over more bytes, by the answer over the first
-  pub data NumberKeeps : Outcome Stop Number → Type 0 where
-    same : {o : Outcome Stop Number} → number_at (s ++ t) at ≡ o → NumberKeeps o
-    short : NumberKeeps (refused (stop ShortData (length s)))
+  pub data NumberKeeps : Result Number Stop → Type 0 where
+    same : {o : Result Number Stop} → number_at (s ++ t) at ≡ o → NumberKeeps o
+    short : NumberKeeps (Err (stop ShortData (length s)))
 
   longer : (n : ℕ) → leb (at + n) (length s) ≡ true → leb (at + n) (length (s ++ t)) ≡ true
   longer n h = le-leb (at + n) (length (s ++ t)) (rw length-append (omega (arith, leb-true (at + n) (length s) h)))

@@ -9,7 +9,7 @@ use borrow.Author.Tests.{le-leb, lt-leb, leb-true, leb-false}
 use lib.Dec.{leb, ltb}
 use lib.ListN.{length, get_or, length-append}
 use lib.Seq.{get_or-append-add}
-use Rattle.outcome.specs.Outcome.{Outcome, ok, refused}
+use Rattle.std.specs.Prelude.{Result, Ok, Err}
 use Rattle.outcome.proofs.OutcomeLaws.{by_test}
 use Rattle.numbers.specs.Refusal.{Stop}
 use Rattle.numbers.specs.Number.{number_at}
@@ -19,9 +19,9 @@ use Rattle.numbers.specs.declared.number.Number.{Number}
 abbrev pub later_stop : ℕ → Stop → Stop
 later_stop k x = record { refusal = x.refusal; place = k + x.place }
 
-unfoldable pub later_number : ℕ → Outcome Stop Number → Outcome Stop Number
-later_number k (ok n) = ok (record { value = n.value; next = k + n.next; taken = n.taken; shortest = n.shortest })
-later_number k (refused why) = refused (later_stop k why)
+unfoldable pub later_number : ℕ → Result Number Stop → Result Number Stop
+later_number k (Ok n) = Ok (record { value = n.value; next = k + n.next; taken = n.taken; shortest = n.shortest })
+later_number k (Err why) = Err (later_stop k why)
 
 pub leb_later : (k x y : ℕ) → leb (k + x) (k + y) ≡ leb x y
 leb_later k x y = go (leb x y) refl
@@ -34,7 +34,7 @@ module _ (u w : List ℕ) where
   pub number_later : (a : ℕ) → number_at (u ++ w) (length u + a) ≡ later_number (length u) (number_at w a)
   unfolding number_at later_number
   number_later a =
-      let P : Outcome Stop Number → Type 0 = λ r. number_at (u ++ w) (length u + a) ≡ later_number (length u) r in
+      let P : Result Number Stop → Type 0 = λ r. number_at (u ++ w) (length u + a) ≡ later_number (length u) r in
       by_test P (leb (a + 1) (length w))
       (λ h. by_test P (ltb (get_or w a 0) 0x80)
       (λ t. simp (length-append, add_assoc, leb_later, get_or-append-add, h, t))

@@ -1,7 +1,6 @@
 -- Document 01, "A number": `CVUncompressData` over the bytes from a place on, with the lengths checked. Request
 -- 2026-06, "how many bytes it took and whether that was the shortest form".
-use Rattle.std.specs.Prelude.{ℕ, ◌+◌, ◌*◌, ◌%◌, ◌^◌, List, Bool, cond, length, get_or, eqb, ltb, leb}
-use Rattle.outcome.specs.Outcome.{Outcome, ok, refused}
+use Rattle.std.specs.Prelude.{ℕ, ◌+◌, ◌*◌, ◌%◌, ◌^◌, List, Bool, cond, length, get_or, eqb, ltb, leb, Result, Ok, Err}
 use Rattle.numbers.specs.Refusal.{Stop, stop}
 use Rattle.numbers.specs.declared.refusal.Refusal.TheVariants.{ShortData, InvalidCompressedAnnotation}
 use Rattle.numbers.specs.declared.number.Number.{Number}
@@ -23,19 +22,19 @@ number_of at taken value =
     record { value = value; next = at + taken; taken = taken; shortest = is_shortest value taken }
 
 -- a form that takes n bytes, if they are there; else 7, and the place is the end
-abbrev pub taking : List ℕ → ℕ → ℕ → Outcome Stop Number → Outcome Stop Number
-taking s at n form = cond (leb (at + n) (length s)) form (refused (stop ShortData (length s)))
+abbrev pub taking : List ℕ → ℕ → ℕ → Result Number Stop → Result Number Stop
+taking s at n form = cond (leb (at + n) (length s)) form (Err (stop ShortData (length s)))
 
 -- "A number: first byte below 0x80, itself. Below 0xc0: two bytes. Else four bytes are read; below 0xe0 …; otherwise 8"
-unfoldable pub number_at : List ℕ → ℕ → Outcome Stop Number
+unfoldable pub number_at : List ℕ → ℕ → Result Number Stop
 number_at s at =
     let b1 = get_or s at 0 in
     let b2 = get_or s (at + 1) 0 in
     let b3 = get_or s (at + 2) 0 in
     let b4 = get_or s (at + 3) 0 in
     taking s at 1
-    (cond (ltb b1 0x80) (ok (number_of at 1 b1))
-    (cond (ltb b1 0xc0) (taking s at 2 (ok (number_of at 2 (b1 % 64 * 256 + b2))))
+    (cond (ltb b1 0x80) (Ok (number_of at 1 b1))
+    (cond (ltb b1 0xc0) (taking s at 2 (Ok (number_of at 2 (b1 % 64 * 256 + b2))))
     (taking s at 4
-    (cond (ltb b1 0xe0) (ok (number_of at 4 (b1 % 32 * 2 ^ 24 + b2 * 2 ^ 16 + b3 * 2 ^ 8 + b4)))
-    (refused (stop InvalidCompressedAnnotation (at + 4)))))))
+    (cond (ltb b1 0xe0) (Ok (number_of at 4 (b1 % 32 * 2 ^ 24 + b2 * 2 ^ 16 + b3 * 2 ^ 8 + b4)))
+    (Err (stop InvalidCompressedAnnotation (at + 4)))))))

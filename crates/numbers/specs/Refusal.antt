@@ -1,5 +1,6 @@
 -- Document 01, "Refusal numbers", 7 to 9: what each refusal of the code is on paper, alone and with its place.
-use Rattle.std.specs.Prelude.{ℕ}
+use Rattle.std.specs.Prelude.{ℕ, Result}
+use Rattle.outcome.specs.Outcome.{raise}
 use Rattle.outcome.specs.Refusal as paper
 use Rattle.numbers.specs.declared.refusal.Refusal.{Refusal}
 use Rattle.numbers.specs.declared.refusal.PlacedRefusal.{PlacedRefusal}
@@ -20,3 +21,7 @@ stop why place = record { refusal = refusal_in why; place = place }
 
 abbrev pub stop_in : PlacedRefusal → Stop
 stop_in why = stop why.refusal why.place
+
+-- an answer, with its refusal as it is on paper
+abbrev pub told : {A : Type 0} → Result A PlacedRefusal → Result A Stop
+told r = raise stop_in r

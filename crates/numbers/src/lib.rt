@@ -9,5 +9,5 @@ mod number;
 mod refusal;
 
 pub use form::{is_shortest, short_width, value_at, why_at, width_at};
-pub use number::{Number, Uncompressed, uncompress_next};
+pub use number::{Number, uncompress_next};
 pub use refusal::{PlacedRefusal, Refusal};

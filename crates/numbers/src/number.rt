@@ -5,8 +5,8 @@ ghost use Rattle.numbers.specs.Promises.{Uncompressing};
 use crate::form::{is_shortest, value_at, why_at, width_at};
 use crate::refusal::PlacedRefusal;
 
-// A number that was read, the place after it, how many bytes it took, and whether no form of it is shorter.
-#[derive(Clone, Copy)]
+/// A number that was read, the place after it, how many bytes it took, and whether no form of it is shorter.
+#[derive(Clone, Copy, Debug, PartialEq, Eq)]
 pub struct Number {
     pub value: u32,
     pub next: usize,
@@ -14,28 +14,20 @@ pub struct Number {
     pub shortest: bool,
 }
 
-// The number at a place, or why there is none.
-#[derive(Clone, Copy)]
-pub enum Uncompressed {
-    Value(Number),
-    Refused(PlacedRefusal),
-}
-
-// Reads the number at `at`. Refuses with 7 or 8.
-pub fn uncompress_next(bytes: &[u8], at: usize) -> Uncompressed
+/// Reads the number at `at`. Refuses with 7 or 8.
+#[tactic(auto, unfolding(outcome::specs::Outcome::raise))]
+#[inline(always)]
+pub fn uncompress_next(bytes: &[u8], at: usize) -> Result<Number, PlacedRefusal>
     ensures { Uncompressing bytes.now at result }
 {
-    let width = width_at(bytes, at);
-    if width == 0 {
-        return Uncompressed::Refused(why_at(bytes, at));
-    }
+    let Some(width) = width_at(bytes, at) else {
+        return Err(why_at(bytes, at));
+    };
     let value = value_at(bytes, at, width);
-    let next = at + width;
-    let shortest = is_shortest(value, width);
-    Uncompressed::Value(Number {
+    Ok(Number {
         value,
-        next,
+        next: at + width,
         taken: width,
-        shortest,
+        shortest: is_shortest(value, width),
     })
 }

@@ -1,29 +1,30 @@
 // Why a number or a step is refused: document 01's refusals 7, 8 and 9.
-ghost use Rattle.std.specs.Prelude.{◌≡◌};
 ghost use Rattle.numbers.specs.Refusal.{refusal_in};
 
-#[derive(Clone, Copy)]
+use outcome::Numbered;
+
+/// Why a number or a step is refused.
+#[derive(Clone, Copy, Debug, PartialEq, Eq)]
 pub enum Refusal {
-    // A number reaches past the bytes.
+    /// A number reaches past the bytes.
     ShortData,
-    // A first byte of 0xe0 or more, with four bytes there.
+    /// A first byte of 0xe0 or more, with four bytes there.
     InvalidCompressedAnnotation,
-    // An opcode above 13.
+    /// An opcode above 13.
     UnknownBinaryAnnotation(u32),
 }
 
-// A refusal, and the place after it.
-#[derive(Clone, Copy)]
+/// A refusal, and the place after it.
+#[derive(Clone, Copy, Debug, PartialEq, Eq)]
 pub struct PlacedRefusal {
     pub refusal: Refusal,
     pub place: usize,
 }
 
-impl Refusal {
-    // The refusal's number in document 01's table.
-    pub fn number(self) -> u32
-        ensures { result ≡ (refusal_in self).number }
-    {
+impl Numbered for Refusal {
+    ghost on_paper = { refusal_in };
+
+    fn number(self) -> u32 {
         match self {
             Refusal::ShortData => 7,
             Refusal::InvalidCompressedAnnotation => 8,
@@ -31,14 +32,10 @@ impl Refusal {
         }
     }
 
-    // Its value in that table.
-    pub fn value(self) -> u64
-        ensures { result ≡ (refusal_in self).value }
-    {
+    fn value(self) -> u64 {
         match self {
-            Refusal::ShortData => 0,
-            Refusal::InvalidCompressedAnnotation => 0,
-            Refusal::UnknownBinaryAnnotation(opcode) => opcode as u64,
+            Refusal::ShortData | Refusal::InvalidCompressedAnnotation => 0,
+            Refusal::UnknownBinaryAnnotation(opcode) => u64::from(opcode),
         }
     }
 }

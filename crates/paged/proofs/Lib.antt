@@ -1,4 +1,4 @@
 pub mod SizeLaws
-pub mod PagesLaws
-pub mod FitLaws
 pub mod LiesLaws
+pub mod FitLaws
+pub mod StepLaws

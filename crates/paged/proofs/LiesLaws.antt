@@ -4,14 +4,14 @@ use Prim.Native.Nat.{ℕ, ◌+◌, ◌*◌, ◌/◌, ◌%◌, ◌≤◌, ◌<◌
 use native.Mathlib.Omega.{arith}
 use native.Mathlib.Nat.{mod-lt, div-add-mod'}
 use borrow.Author.Tests.{leb-true}
-use Rattle.outcome.specs.Outcome.{ok}
+use Rattle.std.specs.Prelude.{Ok}
 use Rattle.outcome.proofs.EachLaws.{each_passed}
 use Rattle.paged.specs.Pages.{through}
 use Rattle.paged.specs.PageSize.{PageSize, need}
 use Rattle.paged.specs.Checks.{wanted, lies_in_file}
 use Rattle.paged.proofs.SizeLaws.{need_index, word_in_page}
 
-module _ (len p : ℕ) (page : ℕ → ℕ) (bytes : ℕ) (h : 0 < p) (e : lies_in_file len p page bytes (need p bytes) ≡ ok tt) where
+module _ (len p : ℕ) (page : ℕ → ℕ) (bytes : ℕ) (h : 0 < p) (e : lies_in_file len p page bytes (need p bytes) ≡ Ok tt) where
   lies_run : (i w : ℕ) → i < bytes → i % p + w ≤ p → i + w ≤ bytes → through p page i + w ≤ len
   lies_run i w l m n =
       let fits : page (i / p) * p + wanted p bytes (i / p) ≤ len = leb-true _ _ (each_passed _ _ (need p bytes) e (i / p) (need_index p bytes h i l)) in

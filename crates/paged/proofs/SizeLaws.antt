@@ -6,6 +6,7 @@ use Prim.Native.Nat.{ℕ, zero, suc, ◌+◌, ◌-◌, ◌*◌, ◌/◌, ◌%◌
 use native.Mathlib.Omega.{arith}
 use native.Mathlib.Nat.{mod-lt, div-add-mod', pow-suc, mul_left_comm, div-lt_iff_lt-mul, div-mul-le_self, le-div_iff_mul-le, suc-mul, mul-le-mul_left, mul-one, le_refl}
 use borrow.Author.Tests.{leb-true, eqb-true}
+use lib.Bits.{bit_and, and_mask}
 use lib.Count.{ones, ones_step, ones-le, under, count_trailing_zeros}
 use lib.Dec.{leb, eqb}
 use Rattle.outcome.proofs.OutcomeLaws.{below_or, and_true}
@@ -42,20 +43,32 @@ one_power (suc k) n h e =
     (λ (o : 1 ≤ n % 2). odd_power k n _ (omega arith) (no_ones k (n / 2) l (omega arith)))
     (below_or (n % 2) 1)
 
-pub size_power : (p : ℕ) → PageSize p → (p ≡ 2 ^ count_trailing_zeros 64 p) × (count_trailing_zeros 64 p < 64)
+size_power : (p : ℕ) → PageSize p → (p ≡ 2 ^ count_trailing_zeros 64 p) × (count_trailing_zeros 64 p < 64)
 unfolding size_is_fit
 size_power p s =
     let u = s.most in
     one_power 64 p (omega arith) (eqb-true _ _ (and_true (eqb (ones p) 1) _ s.fits).0)
 
--- so a page size is a multiple of 4
+pub size_shift : (p : ℕ) → PageSize p → p ≡ 2 ^ count_trailing_zeros 64 p
+size_shift p s = (size_power p s).0
+
+pub shift_small : (p : ℕ) → PageSize p → count_trailing_zeros 64 p < 64
+shift_small p s = (size_power p s).1
+
+pub ruleset shifts = (size_shift, shift_small)
+
+-- so a mask keeps the remainder
+pub mask_is : (n p : ℕ) → PageSize p → bit_and n (p - 1) ≡ n % p
+mask_is n p s = rw (size_shift p s) (and_mask _ _)
+
+-- and a page size is a multiple of 4
 by_four : (p t : ℕ) → p ≡ 2 ^ t → smallest ≤ p → (q : ℕ) × (p ≡ 4 * q)
 by_four p zero e l = absurd (omega arith)
 by_four p (suc zero) e l = absurd (omega arith)
 by_four p (suc (suc t)) e l = (2 ^ t, let e' = rw pow-suc at e in omega arith)
 
 size_by_four : (p : ℕ) → PageSize p → (q : ℕ) × (p ≡ 4 * q)
-size_by_four p s = by_four p _ (size_power p s).0 s.least
+size_by_four p s = by_four p _ (size_shift p s) s.least
 
 -- a word at a multiple of 4 lies within its page
 four_apart : (x i q r : ℕ) → 4 * x + r ≡ 4 * i → r < 4 * q → r + 4 ≤ 4 * q
@@ -75,9 +88,6 @@ word_in_page p i s =
 -- ---- a product with the page size: at most that with the largest
 pub at_most_largest : (a : ℕ) {p : ℕ} → PageSize p → a * p ≤ a * 0x800000
 at_most_largest a s = mul-le-mul_left a s.most
-
-pub mod_below : (a : ℕ) {p : ℕ} → PageSize p → a % p < p
-mod_below a s = mod-lt a (let l = s.least in omega arith)
 
 -- ---- need(b)
 module _ (p b : ℕ) (h : 0 < p) where

@@ -12,4 +12,4 @@ mod size;
 
 pub use pages::{FIRST_ENTRY, Pages, directory_place, directory_word, list_place, page_fits};
 pub use refusal::{PageNumber, Refusal, StreamNumber};
-pub use size::{least, pages_needed_to_store, span_of, words_left};
+pub use size::{pages_needed_to_store, span_of, words_left};

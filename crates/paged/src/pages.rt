@@ -9,18 +9,22 @@ use crate::refusal::PageNumber;
 use crate::size::{page_index, place_in_page};
 use parse_buffer::word_at;
 
-// The location entries follow the header's 52 bytes.
+/// The location entries follow the header's 52 bytes.
 pub const FIRST_ENTRY: usize = 52;
 
-// Which pages: of the location list, of the directory, or of a stream whose first entry is this word of the directory.
-#[derive(Clone, Copy)]
+/// Which pages.
+#[derive(Clone, Copy, Debug, PartialEq, Eq)]
 pub enum Pages {
+    /// The pages of the location list.
     Location,
+    /// The pages of the directory.
     Directory,
+    /// The pages of a stream whose first entry is this word of the directory.
     Stream(usize),
 }
 
-// Word w of the directory.
+/// Word w of the directory.
+#[tactic(auto, unfolding(crate::specs::Pages::directory_word))]
 pub fn directory_word(file: &[u8], size: usize, w: usize) -> u32
     requires page_size { PageSize size }
     requires w_bound { w < 2 ^ 32 }
@@ -29,7 +33,7 @@ pub fn directory_word(file: &[u8], size: usize, w: usize) -> u32
     word_at(file, directory_place(file, size, w))
 }
 
-// Where word w of the directory stands.
+/// Where word w of the directory stands.
 pub fn directory_place(file: &[u8], size: usize, w: usize) -> usize
     requires page_size { PageSize size }
     requires w_bound { w < 2 ^ 32 }
@@ -40,6 +44,7 @@ pub fn directory_place(file: &[u8], size: usize, w: usize) -> usize
     place(size, page, offset)
 }
 
+#[tactic(auto, unfolding(crate::specs::Pages::directory_page))]
 fn directory_page(file: &[u8], size: usize, i: usize) -> PageNumber
     requires page_size { PageSize size }
     requires i_bound { i < 2 ^ 32 }
@@ -48,7 +53,7 @@ fn directory_page(file: &[u8], size: usize, i: usize) -> PageNumber
     PageNumber(word_at(file, list_place(file, size, i)))
 }
 
-// Where word i of the location list stands.
+/// Where word i of the location list stands.
 pub fn list_place(file: &[u8], size: usize, i: usize) -> usize
     requires page_size { PageSize size }
     requires i_bound { i < 2 ^ 32 }
@@ -59,6 +64,7 @@ pub fn list_place(file: &[u8], size: usize, i: usize) -> usize
     place(size, page, offset)
 }
 
+#[tactic(auto, unfolding(crate::specs::Pages::location))]
 fn location_at(file: &[u8], j: usize) -> PageNumber
     requires { j < 2 ^ 32 }
     ensures { result.0 ≡ location (byte_at file.now) j }
@@ -71,16 +77,13 @@ fn place(size: usize, page: PageNumber, offset: usize) -> usize
     requires { PageSize size }
     ensures { result ≡ page.0 * size + offset % size }
 {
-    let start = page.0 as usize * size;
-    start + place_in_page(size, offset)
+    page.0 as usize * size + place_in_page(size, offset)
 }
 
-// Refusal 4: whether a page number passes.
+/// Refusal 4: whether a page number passes.
+#[tactic(auto, unfolding(crate::specs::Checks::page_fits))]
 pub fn page_fits(used: u32, page: PageNumber) -> bool
     ensures { result ≡ page_fits used page.0 }
 {
-    if page.0 == 0 {
-        return false;
-    }
-    page.0 < used
+    page.0 != 0 && page.0 < used
 }

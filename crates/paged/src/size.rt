@@ -4,7 +4,8 @@ ghost use Rattle.std.specs.Prelude.{◌≡◌, ◌+◌, ◌/◌, ◌%◌, ◌^�
 ghost use Rattle.paged.specs.PageSize.{PageSize, need};
 ghost use Rattle.paged.specs.Inner.{words_left, span};
 
-// need(b): the pages that b bytes take.
+/// need(b): the pages that b bytes take.
+#[tactic(auto, unfolding(crate::specs::PageSize::need))]
 pub fn pages_needed_to_store(size: usize, bytes: usize) -> usize
     requires page_size { PageSize size }
     requires bytes_bound { bytes < 2 ^ 40 }
@@ -21,6 +22,7 @@ pub(crate) fn page_index(size: usize, offset: usize) -> usize
     offset >> shift_of(size)
 }
 
+#[tactic(auto, using(crate::proofs::SizeLaws::mask_is))]
 pub(crate) fn place_in_page(size: usize, offset: usize) -> usize
     requires { PageSize size }
     ensures { result ≡ offset % size }
@@ -29,24 +31,26 @@ pub(crate) fn place_in_page(size: usize, offset: usize) -> usize
 }
 
 // The page size is 2 to this power.
+#[tactic(auto, using(crate::proofs::SizeLaws::shifts))]
 fn shift_of(size: usize) -> u32
     requires { PageSize size }
-    ensures { (size ≡ 2 ^ result) × (result < 64) }
+    ensures power { size ≡ 2 ^ result }
+    ensures below { result < 64 }
 {
-    usize::trailing_zeros(size)
+    size.trailing_zeros()
 }
 
-// How many words a page has from word w of a paged object on.
+/// How many words a page has from word w of a paged object on.
+#[tactic(auto, unfolding(crate::specs::Inner::words_left))]
 pub fn words_left(size: usize, w: usize) -> usize
     requires page_size { PageSize size }
     requires w_bound { w < 2 ^ 32 }
     ensures { result ≡ words_left size w }
 {
-    let inside = place_in_page(size, 4 * w);
-    (size - inside) / 4
+    (size - place_in_page(size, 4 * w)) / 4
 }
 
-// Of an object of `bytes` bytes, how many lie in the m pages from page i on.
+/// Of an object of `bytes` bytes, how many lie in the m pages from page i on.
 pub fn span_of(size: usize, bytes: usize, i: usize, m: usize) -> usize
     requires page_size { PageSize size }
     requires end_bound { i + m ≤ 2 ^ 32 }
@@ -54,17 +58,8 @@ pub fn span_of(size: usize, bytes: usize, i: usize, m: usize) -> usize
 {
     let before = i * size;
     if bytes <= before {
-        return 0;
+        0
+    } else {
+        (m * size).min(bytes - before)
     }
-    least(m * size, bytes - before)
-}
-
-// The smaller of two numbers.
-pub fn least(a: usize, b: usize) -> usize
-    ensures { result ≡ min a b }
-{
-    if a < b {
-        return a;
-    }
-    b
 }

@@ -4,114 +4,90 @@
 // specs/Bytes.antt has it, so that what is read never depends on who checked a length first.
 #![tactic(auto)]
 
-ghost use Rattle.std.specs.Prelude.{◌≡◌, ◌+◌, ◌-◌, ◌*◌, ◌^◌, ◌<◌, ◌≤◌, leb, length, take, drop};
+ghost use Rattle.std.specs.Prelude.{◌≡◌, ◌+◌, ◌≤◌, leb, length};
 ghost use Rattle.parse_buffer.specs.Bytes.{byte_at, word};
-ghost use Rattle.parse_buffer.specs.Parse.{Parsing, Taking, InPlace};
+ghost use Rattle.parse_buffer.specs.Parse.{Parsing, Taking};
 
-// A number that was read, and the place after it.
-#[derive(Clone, Copy)]
+/// A number that was read, and the place after it.
+#[derive(Clone, Copy, Debug, PartialEq, Eq)]
 pub struct Word {
     pub value: u32,
     pub next: usize,
 }
 
-// The number at a place, or refusal 7.
-#[derive(Clone, Copy)]
-pub enum Parsed {
-    Value(Word),
-    ShortData,
-}
+/// Refusal 7: a number reaches past the end.
+#[derive(Clone, Copy, Debug, PartialEq, Eq)]
+pub struct ShortData;
 
-pub fn parse_u32(bytes: &[u8], at: usize) -> Parsed
+/// The number at a place, or refusal 7.
+#[tactic(auto, unfolding(crate::specs::Parse::parse_u32, outcome::specs::Outcome::raise))]
+pub fn parse_u32(bytes: &[u8], at: usize) -> Result<Word, ShortData>
     ensures { Parsing bytes.now at result }
 {
     if !can_take(bytes, at, 4) {
-        return Parsed::ShortData;
+        return Err(ShortData);
     }
-    let next = at + 4;
-    Parsed::Value(Word {
+    Ok(Word {
         value: word_at(bytes, at),
-        next,
+        next: at + 4,
     })
 }
 
-// The n bytes from a place on: the very part of the lent bytes, with no copy. If they are not there, an empty part.
-pub fn take(bytes: &[u8], at: usize, n: usize) -> &[u8]
+/// The n bytes from a place on, if they are there: the very part of the lent bytes, with no copy.
+pub fn take(bytes: &[u8], at: usize, n: usize) -> Option<&[u8]>
     ensures { Taking bytes.entry at n result }
 {
     if !can_take(bytes, at, n) {
-        return part(bytes, 0, 0);
+        return None;
     }
-    part(bytes, at, at + n)
+    Some(&bytes[at..at + n])
 }
 
-// Whether n bytes are there from a place on: `take` returns them, and not an empty part in their stead.
+/// Whether n bytes are there from a place on.
 pub fn can_take(bytes: &[u8], at: usize, n: usize) -> bool
     ensures { result ≡ leb (at + n) (length bytes.now) }
 {
-    let len = bytes.len();
-    if len < at {
-        return false;
-    }
-    let left = len - at;
-    n <= left
+    at <= bytes.len() && n <= bytes.len() - at
 }
 
-// The little-endian number at a place.
+/// The little-endian number at a place.
 pub fn word_at(bytes: &[u8], at: usize) -> u32
     ensures { result ≡ word (byte_at bytes.now) at }
 {
     if can_take(bytes, at, 4) {
-        return word_in(bytes, at);
+        word_in(bytes, at)
+    } else {
+        cut_word(bytes, at)
     }
-    cut_word(bytes, at)
 }
 
-// The same if all four bytes are there. Indexed in place, with no test between, they are one load.
+/// The same if all four bytes are there. Indexed in place, with no test between, they are one load.
+#[tactic(auto, unfolding(crate::specs::Bytes::word))]
 pub fn word_in(bytes: &[u8], at: usize) -> u32
     requires { at + 4 ≤ length bytes.now }
     ensures { result ≡ word (byte_at bytes.now) at }
 {
-    let a = bytes[at] as u32;
-    let b = bytes[at + 1] as u32;
-    let c = bytes[at + 2] as u32;
-    let d = bytes[at + 3] as u32;
-    join(a, b, c, d)
+    u32::from_le_bytes([bytes[at], bytes[at + 1], bytes[at + 2], bytes[at + 3]])
 }
 
 // The same byte by byte, for a number that may reach past the end.
+#[tactic(auto, unfolding(crate::specs::Bytes::word))]
 fn cut_word(bytes: &[u8], at: usize) -> u32
     ensures { result ≡ word (byte_at bytes.now) at }
 {
     if bytes.len() <= at {
         return 0;
     }
-    let a = byte(bytes, at);
-    let b = byte(bytes, at + 1);
-    let c = byte(bytes, at + 2);
-    let d = byte(bytes, at + 3);
-    join(a, b, c, d)
+    u32::from_le_bytes([
+        byte(bytes, at),
+        byte(bytes, at + 1),
+        byte(bytes, at + 2),
+        byte(bytes, at + 3),
+    ])
 }
 
-fn byte(bytes: &[u8], at: usize) -> u32
-    ensures { (result ≡ byte_at bytes.now at) × (result < 256) }
+fn byte(bytes: &[u8], at: usize) -> u8
+    ensures { result ≡ byte_at bytes.now at }
 {
-    if at < bytes.len() {
-        return bytes[at] as u32;
-    }
-    0
-}
-
-fn join(a: u32, b: u32, c: u32, d: u32) -> u32
-    requires { (a < 256) × ((b < 256) × ((c < 256) × (d < 256))) }
-    ensures { result ≡ a + b * 2 ^ 8 + c * 2 ^ 16 + d * 2 ^ 24 }
-{
-    a + b * 0x100 + c * 0x10000 + d * 0x1000000
-}
-
-fn part(bytes: &[u8], start: usize, end: usize) -> &[u8]
-    requires { (start ≤ end) × (end ≤ length bytes.now) }
-    ensures { (result.now ≡ take (end - start) (drop start bytes.now)) × InPlace bytes.entry start result }
-{
-    &bytes[start..end]
+    bytes.get(at).copied().unwrap_or(0)
 }

@@ -1,55 +1,97 @@
--- Where a step ends: the place of an end is the length, and at or past the length every step is that end.
-use mathlib.Core.Path.{◌≡◌, refl, subst}
+-- Where a step ends: the place of an end is the length, and at or past the length every step is that end. Every other
+-- step ends past its start.
+use mathlib.Core.Path.{◌≡◌, refl, subst, ap, ◌∙◌}
 use mathlib.Core.Bool.{Bool, true, false}
 use mathlib.Core.List.{List}
-use Prim.Native.Nat.{ℕ, ◌≤◌}
+use Prim.Native.Nat.{ℕ, ◌≤◌, ◌<◌}
 use native.Mathlib.Omega.{arith}
-use borrow.Author.Tests.{le-leb}
+use borrow.Author.Tests.{le-leb, leb-false}
 use lib.Dec.{leb, eqb}
 use lib.ListN.{length}
-use Rattle.outcome.specs.Outcome.{Outcome, ok, refused, ◌>>=◌, ◌>>◌, require}
+use denote.Ref.{Bor}
+use Rattle.std.specs.Prelude.{Result, Ok, Err}
+use Rattle.outcome.specs.Outcome.{and_next, and_then, ◌>>=◌, ◌>>◌, require}
 use Rattle.outcome.proofs.OutcomeLaws.{by_test}
 use Rattle.numbers.specs.Refusal.{Stop}
 use Rattle.numbers.specs.Number.{number_at}
+use Rattle.numbers.proofs.FormLaws.{Form, short, invalid, form_at}
+use Rattle.numbers.proofs.MoveLaws.{number_in}
 use Rattle.annotations.specs.Step.{PlacedTriple, Stepped, annotation, end, operands, step_at}
 use Rattle.numbers.specs.declared.number.Number.{Number}
+use Rattle.annotations.specs.Promises.{step_in}
+use Rattle.annotations.specs.declared.step.Annotated.{Annotated}
+use Rattle.annotations.specs.declared.step.Step.{Step}
+use Rattle.annotations.specs.declared.step.Step.TheVariants.{Annotation, Refused}
+use Rattle.numbers.specs.declared.refusal.PlacedRefusal.{PlacedRefusal}
+use Rattle.reader.specs.Place.{place_after}
+use Rattle.reader.specs.Promises.{Moving, bytes_left}
+use Rattle.reader.specs.declared.BinaryAnnotationsIter.{BinaryAnnotationsIter}
 
--- if the answer is an end, its place is the length
-pub data EndsAt (s : List ℕ) : Outcome Stop Stepped → Type 0 where
-  found : {x : PlacedTriple} → EndsAt s (ok (annotation x))
-  ended : EndsAt s (ok (end (length s)))
-  stopped : {why : Stop} → EndsAt s (refused why)
+-- if the answer is an end, its place is the length; else its place is past the start
+pub data EndsAt (s : List ℕ) (from : ℕ) : Result Stepped Stop → Type 0 where
+  found : {x : PlacedTriple} → from < length s → from < x.next → EndsAt s from (Ok (annotation x))
+  ended : EndsAt s from (Ok (end (length s)))
+  stopped : {why : Stop} → from < length s → from < why.place → EndsAt s from (Err why)
 
-module _ {s : List ℕ} where
-  after_number : (r : Outcome Stop Number) (k : Number → Outcome Stop Stepped) → ((n : Number) → EndsAt s (k n)) → EndsAt s (r >>= k)
-  unfolding ◌>>=◌
-  after_number (ok n) k h = h n
-  after_number (refused why) k h = stopped
+module _ {s : List ℕ} {from : ℕ} (inside : from < length s) where
+  after_number : (at : ℕ) (k : Number → Result Stepped Stop) → from ≤ at → ((n : Number) → at < n.next → EndsAt s from (k n)) → EndsAt s from (number_at s at >>= k)
+  unfolding and_then
+  after_number at k l h = go (number_at s at) (form_at s at) refl
+    where
+      go : (r : Result Number Stop) → Form s at r → number_at s at ≡ r → EndsAt s from (r >>= k)
+      go (Ok n) f e = h n (number_in s at e).0
+      go _ (short m) e = stopped inside inside
+      go _ (invalid m) e = stopped inside (omega arith)
 
-  after_test : (b : Bool) (why : Stop) {k : Outcome Stop Stepped} → EndsAt s k → EndsAt s (require b why >> k)
-  unfolding require ◌>>◌
-  after_test true why h = h
-  after_test false why h = stopped
+  after_test : (b : Bool) (why : Stop) {k : Result Stepped Stop} → from < why.place → EndsAt s from k → EndsAt s from (require b why >> k)
+  unfolding require and_next
+  after_test true why l h = h
+  after_test false why l h = stopped inside l
 
-step_ends : (s : List ℕ) (at : ℕ) → EndsAt s (step_at s at)
+step_ends : (s : List ℕ) (at : ℕ) → EndsAt s at (step_at s at)
 unfolding step_at operands
 step_ends s at =
-    let P = EndsAt s in
+    let P = EndsAt s at in
     by_test P (leb (length s) at) (λ _. ended)
-    (λ _. after_number (number_at s at) _ λ code.
+    (λ h.
+    let inside : at < length s = leb-false (length s) at h in
+    after_number inside at _ (omega arith) λ code l.
     by_test P (eqb code.value 0) (λ _. ended)
-    (λ _. after_test (leb code.value 13) _
-    (after_number (number_at s code.next) _ λ v.
-    by_test P (eqb code.value 12) (λ _. after_number (number_at s v.next) _ λ w. found) (λ _. found))))
+    (λ _. after_test inside (leb code.value 13) _ l
+    (after_number inside code.next _ (omega arith) λ v m.
+    by_test P (eqb code.value 12) (λ _. after_number inside v.next _ (omega arith) λ w n. found inside (omega arith)) (λ _. found inside (omega arith)))))
 
-pub end_place : (s : List ℕ) (at : ℕ) {place : ℕ} → step_at s at ≡ ok (end place) → place ≡ length s
-end_place s at {place} e = go _ (subst (EndsAt s) e (step_ends s at)) refl
-  where
-    go : (y : Outcome Stop Stepped) → EndsAt s y → y ≡ ok (end place) → place ≡ length s
-    go _ found f = absurd (let z : ◌≡◌ {A = ℕ} 0 1 = cc in omega arith)
-    go _ ended f = cc
-    go _ stopped f = absurd (let z : ◌≡◌ {A = ℕ} 0 1 = cc in omega arith)
+module _ (s : List ℕ) (at : ℕ) where
+  pub end_place : {place : ℕ} → step_at s at ≡ Ok (end place) → place ≡ length s
+  end_place {place} e = go _ (subst (EndsAt s at) e (step_ends s at)) refl
+    where
+      go : (y : Result Stepped Stop) → EndsAt s at y → y ≡ Ok (end place) → place ≡ length s
+      go _ (found i l) f = absurd (let z : ◌≡◌ {A = ℕ} 0 1 = cc in omega arith)
+      go _ ended f = cc
+      go _ (stopped i l) f = absurd (let z : ◌≡◌ {A = ℕ} 0 1 = cc in omega arith)
 
-pub step_past : (s : List ℕ) (at : ℕ) → length s ≤ at → step_at s at ≡ ok (end (length s))
+-- ---- the iterator: after an item fewer bytes are left
+module _ {r r' : BinaryAnnotationsIter} {step : Step Annotated} (m : Moving r step r') where
+  less : ((place : ℕ) → step_in step ≡ Ok (end place) → ⊥) → bytes_left r' < bytes_left r
+  unfolding place_after
+  less n = go (step_at r.bytes.now r.at) (step_ends r.bytes.now r.at) refl
+    where
+      same : length r'.bytes.now ≡ length r.bytes.now
+      same = ap (λ (y : Bor (List ℕ)). length y.now) m.bytes
+
+      go : (o : Result Stepped Stop) → EndsAt r.bytes.now r.at o → step_at r.bytes.now r.at ≡ o → bytes_left r' < bytes_left r
+      go _ (found {x} i l) e = let p : r'.at ≡ x.next = m.place ∙ ap place_after e in let k = same in omega arith
+      go _ ended e = absurd (n _ (m.answer ∙ e))
+      go _ (stopped {why} i l) e = let p : r'.at ≡ why.place = m.place ∙ ap place_after e in let k = same in omega arith
+
+  pub less_found : {a : Annotated} → step ≡ Annotation a → bytes_left r' < bytes_left r
+  unfolding step_in
+  less_found e = less (λ place f. absurd (let g = ap step_in e in let z : ◌≡◌ {A = ℕ} 0 1 = cc in omega arith))
+
+  pub less_refused : {why : PlacedRefusal} → step ≡ Refused why → bytes_left r' < bytes_left r
+  unfolding step_in
+  less_refused e = less (λ place f. absurd (let g = ap step_in e in let z : ◌≡◌ {A = ℕ} 0 1 = cc in omega arith))
+
+pub step_past : (s : List ℕ) (at : ℕ) → length s ≤ at → step_at s at ≡ Ok (end (length s))
 unfolding step_at
 step_past s at h = rw (le-leb (length s) at h)

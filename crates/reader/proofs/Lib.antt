@@ -1,3 +1,2 @@
-pub mod Loan
 pub mod EndLaws
 pub mod Statements

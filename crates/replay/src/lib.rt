@@ -1,18 +1,22 @@
-// What the replay programs share: the digest of answers, a record's numbers, and the tally of the records.
-// `tests/differential/README.md` has the lists' formats.
-//
-// digest.rt: the digest. number.rt: a record's numbers. tally.rt: the tally, and how a program reports it.
+//! What the programs that replay recorded questions share. A list is a sequence of records; each has a header of fixed
+//! size and a body, and the header ends with the digest of the wanted answers. `tests/differential/README.md` has the
+//! formats.
+//!
+//! run.rt: the run over the records of a list. record.rt: what differs between the programs. tally.rt: what the records
+//! came to. digest.rt: the digest of answers. stores.rt: asking with a store that is lent. number.rt: little-endian
+//! numbers. input.rt: reading into a buffer.
 #![tactic(auto)]
 
 mod digest;
+mod input;
 mod number;
+mod record;
+mod run;
+mod stores;
 mod tally;
 
-pub use digest::Digest;
-pub use number::{half, word};
-pub use tally::{Next, Tally};
-
-// The numbers of standard input and output.
-pub const STDIN_FILENO: i32 = 0;
-
-pub const STDOUT_FILENO: i32 = 1;
+pub use digest::{Digest, Entry};
+pub use number::{half_at, long_at, word_at};
+pub use record::{Answers, Record};
+pub use run::replay;
+pub use stores::{Rooms, fill, in_rooms, in_store};

@@ -1,9 +1,10 @@
 // The tally of replayed records, and how a program reports it.
-use crate::STDOUT_FILENO;
+use std::io;
+use std::io::Write;
 
 // Whether there is more to read.
-#[derive(Clone, Copy)]
-pub enum Next {
+#[derive(Clone, Copy, PartialEq)]
+pub(crate) enum Next {
     Record,
     Ended,
     // A record is cut short, or its header exceeds the limits.
@@ -11,13 +12,13 @@ pub enum Next {
 }
 
 #[derive(Clone, Copy)]
-pub struct Tally {
+pub(crate) struct Tally {
     pub next: Next,
     pub records: u64,
     pub questions: u64,
     pub differ: u64,
     // The first record that differs.
-    pub first: u64,
+    pub first: Option<u64>,
 }
 
 impl Tally {
@@ -27,61 +28,45 @@ impl Tally {
             records: 0,
             questions: 0,
             differ: 0,
-            first: 0,
-        }
-    }
-
-    pub fn goes_on(self) -> bool {
-        let next = self.next;
-        match next {
-            Next::Record => true,
-            _ => false,
+            first: None,
         }
     }
 
     pub fn stopped(self, next: Next) -> Self {
-        Tally {
-            next,
-            records: self.records,
-            questions: self.questions,
-            differ: self.differ,
-            first: self.first,
-        }
+        Tally { next, ..self }
     }
 
     // The tally after a record. The counts are far below 2^64; wrapping sums need no proof of that.
     pub fn counted(self, questions: u64, agrees: bool) -> Self {
-        let first = if !agrees && self.differ == 0 {
-            self.records
-        } else {
-            self.first
+        let asked = Tally {
+            records: self.records.wrapping_add(1),
+            questions: self.questions.wrapping_add(questions),
+            ..self
         };
-        let differ = if agrees { 0 } else { 1 };
+        if agrees {
+            return asked;
+        }
         Tally {
-            next: Next::Record,
-            records: std::num::wrapping_add_u64(self.records, 1),
-            questions: std::num::wrapping_add_u64(self.questions, questions),
-            differ: std::num::wrapping_add_u64(self.differ, differ),
-            first,
+            differ: self.differ.wrapping_add(1),
+            first: self.first.or(Some(self.records)),
+            ..asked
         }
     }
 
-    pub fn report(self) {
-        let next = self.next;
-        if let Next::Bad = next {
-            io::write_all(STDOUT_FILENO, b"bad list\n");
-            return;
+    pub fn report<W: Write>(self, writer: &mut W) -> io::Result<()> {
+        if self.next == Next::Bad {
+            return writer.write_all(b"bad list\n");
         }
-        line(b"questions ", self.questions);
-        line(b"differ ", self.differ);
-        if 0 < self.differ {
-            line(b"first ", self.first);
+        let Tally {
+            questions,
+            differ,
+            ..
+        } = self;
+        writeln!(writer, "questions {questions}")?;
+        writeln!(writer, "differ {differ}")?;
+        match self.first {
+            Some(first) => writeln!(writer, "first {first}"),
+            None => Ok(()),
         }
     }
-}
-
-fn line(name: &[u8], n: u64) {
-    io::write_all(STDOUT_FILENO, name);
-    io::print_decimal(STDOUT_FILENO, n);
-    io::write_all(STDOUT_FILENO, b"\n");
 }

@@ -1,36 +1,43 @@
-// The header of a record: 18 bytes, its numbers little-endian (`tests/differential/README.md` has the format).
-use crate::ask::Question;
-use replay::{Digest, half, word};
+// A record: a header of 18 bytes, its numbers little-endian (`tests/differential/README.md` has the format), and the
+// bytes that are read.
+use crate::ask;
+use replay::{Answers, Record, half_at};
 
+pub const HEADER: usize = 18;
+
+// How many bytes a record may have.
+pub const LONGEST: usize = 4096;
+
+// The places to read at, and the lengths to take at each.
 #[derive(Clone, Copy)]
-pub struct Header {
-    // How many bytes follow.
-    pub length: usize,
-    pub question: Question,
-    // The digest of the Rust's answers.
-    pub digest: Digest,
+pub struct Question {
+    length: usize,
+    pub first: usize,
+    pub last: usize,
+    pub fewest: usize,
+    pub most: usize,
 }
 
-pub fn parse(h: &[u8; 18]) -> Header {
-    Header {
-        length: half(h[0], h[1]),
-        question: Question {
-            first: half(h[2], h[3]),
-            last: half(h[4], h[5]),
-            fewest: half(h[6], h[7]),
-            most: half(h[8], h[9]),
-        },
-        digest: Digest {
-            a: word(h[10], h[11], h[12], h[13]),
-            b: word(h[14], h[15], h[16], h[17]),
-        },
+impl Record<HEADER> for Question {
+    type Stores = ();
+
+    fn parse(h: &[u8; HEADER]) -> Option<Question> {
+        let q = Question {
+            length: half_at(h, 0),
+            first: half_at(h, 2),
+            last: half_at(h, 4),
+            fewest: half_at(h, 6),
+            most: half_at(h, 8),
+        };
+        let within = q.first <= q.last && q.last <= q.length && q.fewest <= q.most;
+        within.then_some(q)
     }
-}
 
-impl Header {
-    // Our lists keep within these limits; one that does not is damaged.
-    pub fn within_limits(self) -> bool {
-        let q = self.question;
-        q.first <= q.last && q.last <= self.length && q.fewest <= q.most
+    fn length(&self) -> usize {
+        self.length
+    }
+
+    fn ask(&self, bytes: &mut [u8], _: &mut ()) -> Option<Answers> {
+        Some(Answers::Asked(1, ask::answer(*self, bytes)))
     }
 }

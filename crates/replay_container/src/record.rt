@@ -1,8 +1,8 @@
-// The header of a record and the sizes after it, all little-endian (`tests/differential/README.md` has the format).
-ghost use Rattle.std.specs.Prelude.{◌+◌, ◌≤◌, length};
+// A record: a header of 26 bytes and runs of sizes, all little-endian (`tests/differential/README.md` has the format).
+use crate::ask;
+use replay::{Answers, Record, Rooms, half_at, word_at};
 
-use crate::ask::Question;
-use replay::{Digest, half, word};
+pub const HEADER: usize = 26;
 
 // How many sizes a record may have.
 pub const MOST_SIZES: usize = 16400;
@@ -16,88 +16,68 @@ pub const LARGEST_ROOM: usize = 131072;
 // The bytes of a run: how many sizes, and the size.
 pub const RUN: usize = 6;
 
-// The bytes of as many runs as a record may have, 1,024.
-pub const LONGEST_RUNS: usize = 6144;
+// How many runs a record may have.
+pub const MOST_RUNS: usize = 1024;
 
-// More sizes than any list has.
-const TOO_MANY: usize = usize::MAX;
-
-const WORD: u64 = 0x100000000;
-
+// The page size, and the sizes of the stores to write the container into.
 #[derive(Clone, Copy)]
-pub struct Header {
-    // How many runs follow.
-    pub runs: usize,
+pub struct Question {
+    length: usize,
     // How many bytes of streams are lent.
-    pub length: usize,
-    pub question: Question,
-    // The digest of the reckoned answers.
-    pub digest: Digest,
+    lent: usize,
+    pub page_size: u32,
+    pub rooms: Rooms,
 }
 
-pub fn parse(h: &[u8; 26]) -> Header {
-    Header {
-        runs: half(h[0], h[1]),
-        length: word(h[6], h[7], h[8], h[9]) as usize,
-        question: Question {
-            page_size: narrow(word(h[2], h[3], h[4], h[5])),
-            low: word(h[10], h[11], h[12], h[13]) as usize,
-            high: word(h[14], h[15], h[16], h[17]) as usize,
-        },
-        digest: Digest {
-            a: word(h[18], h[19], h[20], h[21]),
-            b: word(h[22], h[23], h[24], h[25]),
-        },
+#[derive(Drop)]
+pub struct Stores {
+    pub sizes: [u32; MOST_SIZES],
+    // The bytes that are lent for streams.
+    pub bytes: [u8; LONGEST],
+    pub store: [u8; LARGEST_ROOM],
+}
+
+impl Record<HEADER> for Question {
+    type Stores = Stores;
+
+    fn parse(h: &[u8; HEADER]) -> Option<Question> {
+        let runs = half_at(h, 0);
+        let lent = word_at(h, 6) as usize;
+        let rooms = Rooms {
+            low: word_at(h, 10) as usize,
+            high: word_at(h, 14) as usize,
+        };
+        if MOST_RUNS < runs || LONGEST < lent || !rooms.are_within(LARGEST_ROOM) {
+            return None;
+        }
+        Some(Question {
+            length: runs * RUN,
+            lent,
+            page_size: word_at(h, 2),
+            rooms,
+        })
+    }
+
+    fn length(&self) -> usize {
+        self.length
+    }
+
+    fn ask(&self, runs: &mut [u8], stores: &mut Stores) -> Option<Answers> {
+        let sizes = make_sizes(runs, &mut stores.sizes)?;
+        let bytes = stores.bytes.get(..self.lent)?;
+        let digest = ask::answer(*self, sizes, bytes, &mut stores.store);
+        Some(Answers::Asked(sizes.len() as u64, digest))
     }
 }
 
-impl Header {
-    // Our lists keep within these limits; one that does not is damaged.
-    pub fn within_limits(self) -> bool {
-        let q = self.question;
-        self.length <= LONGEST && q.low <= q.high && q.high <= LARGEST_ROOM
+// Puts the sizes of all runs to the front of `sizes`, and returns them. None if there are too many.
+fn make_sizes<'a>(runs: &[u8], sizes: &'a mut [u32]) -> Option<&'a [u32]> {
+    let (runs, _) = runs.as_chunks::<RUN>();
+    let mut made = 0usize;
+    for run in runs {
+        let end = made.checked_add(half_at(run, 0))?;
+        sizes.get_mut(made..end)?.fill(word_at(run, 2));
+        made = end;
     }
-}
-
-// Puts the sizes of all runs to the front of `sizes`, and returns how many there are: more than `sizes` has room for if
-// that is too few.
-pub fn make_sizes(runs: &[u8], sizes: &mut [u32]) -> usize {
-    let mut made = 0;
-    for i in 0..runs.len() / RUN {
-        made = add_run(runs, i, sizes, made);
-    }
-    made
-}
-
-// Puts the sizes of run `i` after those that are made, and returns how many there are then.
-fn add_run(runs: &[u8], i: usize, sizes: &mut [u32], made: usize) -> usize {
-    if sizes.len() < made {
-        return TOO_MANY;
-    }
-    if runs.len() / RUN <= i {
-        return made;
-    }
-    let at = i * RUN;
-    let count = half(runs[at], runs[at + 1]);
-    if sizes.len() - made < count {
-        return TOO_MANY;
-    }
-    fill(&mut sizes[made..made + count], size_at(runs, at));
-    made + count
-}
-
-fn size_at(runs: &[u8], at: usize) -> u32
-    requires { at + 6 ≤ length runs.now }
-{
-    narrow(word(runs[at + 2], runs[at + 3], runs[at + 4], runs[at + 5]))
-}
-
-fn fill(sizes: &mut [u32], size: u32) {
-    for i in 0..sizes.len() {
-        sizes[i] = size;
-    }
-}
-
-fn narrow(word: u64) -> u32 {
-    (word % WORD) as u32
+    sizes.get(..made)
 }

@@ -2,7 +2,7 @@
 use mathlib.Core.Path.{◌≡◌}
 use Prim.Native.Nat.{ℕ, ◌+◌, ◌*◌, ◌≤◌}
 use native.Mathlib.Omega.{arith}
-use Rattle.outcome.specs.Outcome.{ok}
+use Rattle.std.specs.Prelude.{Ok}
 use Rattle.parse_buffer.specs.Bytes.{File}
 use Rattle.paged.specs.PageSize.{PageSize, need}
 use Rattle.paged.specs.Pages.{first_entry, location, directory_page}
@@ -18,13 +18,13 @@ module _ (f : File) (len p : ℕ) where
   location_lies h = record { lies = λ j l. omega arith }
 
   module _ (s : PageSize p) where
-    pub list_lies_lem : {d : ℕ} → lies_in_file len p (location f) (4 * d) (need p (4 * d)) ≡ ok tt → Lying f len p Directory d
+    pub list_lies_lem : {d : ℕ} → lies_in_file len p (location f) (4 * d) (need p (4 * d)) ≡ Ok tt → Lying f len p Directory d
     unfolding entry_place
     list_lies_lem {d} e =
         let least = s.least in
         record { lies = λ j l. lies_word len p (location f) (4 * d) (omega arith) e s j (omega arith) }
 
-    pub directory_lies : {d first n : ℕ} → lies_in_file len p (directory_page f p) d (need p d) ≡ ok tt → 4 * (first + n) ≤ d → Lying f len p (Stream first) n
+    pub directory_lies : {d first n : ℕ} → lies_in_file len p (directory_page f p) d (need p d) ≡ Ok tt → 4 * (first + n) ≤ d → Lying f len p (Stream first) n
     unfolding entry_place
     directory_lies {d} {first} e h =
         let least = s.least in

@@ -1,10 +1,8 @@
 -- Runs: where the entries of a list stand in one page, and what their words are.
 use mathlib.Core.Path.{◌≡◌, refl, sym, ap, ◌∙◌}
-use Prim.Native.Nat.{ℕ, ◌+◌, ◌-◌, ◌*◌, ◌/◌, ◌%◌, ◌^◌, ◌≤◌, ◌<◌}
+use Prim.Native.Nat.{ℕ, ◌+◌, ◌*◌, ◌/◌, ◌%◌, ◌^◌, ◌≤◌, ◌<◌}
 use native.Mathlib.Omega.{arith}
 use native.Mathlib.Nat.{div-add-mod', add_assoc}
-use mir.Syntax.{w64}
-use mir.Val.{Fits}
 use lib.Arith.{digits_div, digits_mod}
 use Rattle.parse_buffer.specs.Bytes.{File, word}
 use Rattle.paged.specs.PageSize.{PageSize}
@@ -13,29 +11,14 @@ use Rattle.paged.specs.Inner.{words_left}
 use Rattle.paged.proofs.SizeLaws.{word_in_page}
 use Rattle.paged.specs.declared.pages.Pages.{Pages}
 use Rattle.paged.specs.declared.pages.Pages.TheVariants.{Location, Directory, Stream}
-use Rattle.runs.specs.Inner.{entry_place, Lying, Running, in_page}
+use Rattle.runs.specs.Inner.{entry_place, Running, in_page}
 use Rattle.runs.specs.declared.Run.{Run}
 
 -- ---- indices stay small
-pub entry_below : (pages : Pages) {i n : ℕ} → i < n → entry_of pages n ≤ 2 ^ 32 → entry_of pages i < 2 ^ 32
-entry_below Location h l = omega arith
-entry_below Directory h l = omega arith
-entry_below (Stream first) h l = omega arith
-
 pub index_most : (pages : Pages) {n : ℕ} → entry_of pages n ≤ 2 ^ 32 → n ≤ 2 ^ 32
 index_most Location l = omega arith
 index_most Directory l = omega arith
 index_most (Stream first) l = omega arith
-
-module _ {pages : Pages} (i : ℕ) (h : entry_of pages i < 2 ^ 32) where
-  pub entry_location : pages ≡ Location → i < 2 ^ 32
-  entry_location e = rw e at h
-
-  pub entry_directory : pages ≡ Directory → i < 2 ^ 32
-  entry_directory e = rw e at h
-
-  pub entry_stream : {first : ℕ} → pages ≡ Stream first → first + i < 2 ^ 32
-  entry_stream e = rw e at h
 
 -- ---- the page number of an entry is the word at its place
 pub entry_is : (f : File) (p : ℕ) (pages : Pages) (i : ℕ) → word f (entry_place f p pages i) ≡ page_of f p pages i
@@ -84,28 +67,6 @@ module _ (f : File) (p i n : ℕ) {pages : Pages} where
 
 pub ruleset run_cases = (run_location, run_directory, run_stream)
 
--- ---- a run that lies in the file: its words can be read, and are the list's page numbers
-module _ {f : File} {len p n i : ℕ} {pages : Pages} {r : Run} (lying : Lying f len p pages n) (run : Running f p pages i (n - i) r) (l : i < n) (some : 0 < r.words) where
-  pub run_lies : r.at + 4 * r.words ≤ len
-  run_lies =
-      let few = run.few in
-      let last = run.places (r.words - 1) (omega arith) in
-      let in_file = lying.lies (i + (r.words - 1)) (omega arith) in
-      omega arith
-
-  pub first_lies : r.at + 4 ≤ len
-  first_lies = let whole = run_lies in omega arith
-
-  pub word_lies : {g : ℕ} → g < r.words → r.at + 4 * g + 4 ≤ len
-  word_lies h = let whole = run_lies in omega arith
-
-  -- and sums up to their end fit
-  module _ {g : ℕ} (h : g ≤ r.words) (small : len < 2 ^ 64) where
-    pub four_fits : Fits w64 (4 * g)
-    four_fits = let whole = run_lies in record { fits = omega arith }
-
-    pub word_fits : Fits w64 (r.at + 4 * g)
-    word_fits = let whole = run_lies in record { fits = omega arith }
-
+-- ---- the words of a run are the list's page numbers
 pub run_page : {f : File} {p n i : ℕ} {pages : Pages} {r : Run} → Running f p pages i n r → (g : ℕ) → g < r.words → word f (r.at + 4 * g) ≡ page_of f p pages (i + g)
 run_page {f} {p} {i = i} {pages = pages} run g h = ap (word f) (run.places g h) ∙ entry_is f p pages (i + g)

@@ -1,10 +1,8 @@
 -- Stretches: page numbers that go up by one, and the run that is left after them.
 use mathlib.Core.Path.{◌≡◌, refl, sym, ◌∙◌}
-use mathlib.Core.Logic.{⊎_elim}
 use Prim.Native.Nat.{ℕ, ◌+◌, ◌-◌, ◌*◌, ◌^◌, ◌≤◌, ◌<◌}
 use native.Mathlib.Omega.{arith}
-use native.Mathlib.Nat.{add_assoc, add-zero, mul-zero}
-use Rattle.outcome.proofs.OutcomeLaws.{below_or}
+use native.Mathlib.Nat.{add_assoc}
 use Rattle.parse_buffer.specs.Bytes.{File, word}
 use Rattle.paged.specs.Pages.{entry_of}
 use Rattle.paged.specs.declared.pages.Pages.{Pages}
@@ -18,34 +16,6 @@ pub record Risen (f : File) (at m first : ℕ) : Type 0 where
   pub is : first ≡ word f at
   pub up : (j : ℕ) → j < m → word f (at + 4 * j) ≡ first + j
   pub small : first + m ≤ 2 ^ 32
-
-module _ (f : File) (at : ℕ) {first : ℕ} where
-  pub risen_one : first ≡ word f at → first < 2 ^ 32 → Risen f at 1 first
-  risen_one e l =
-      record {
-        is = e;
-        up = λ j h. let z : j ≡ 0 = omega arith in rw z (simp (mul-zero, add-zero) (sym e));
-        small = omega arith;
-      }
-
-  module _ {m : ℕ} (risen : Risen f at m first) where
-    pub risen_more : {v : ℕ} → v ≡ word f (at + 4 * m) → v < 2 ^ 32 → v ≡ first + m → Risen f at (m + 1) first
-    risen_more read l next =
-        record {
-          is = risen.is;
-          up = λ j h.
-              ⊎_elim
-              (λ (k : j < m). risen.up j k)
-              (λ (k : m ≤ j). let same : j ≡ m = omega arith in rw same (sym read ∙ next))
-              (below_or j m);
-          small = omega arith;
-        }
-
-    pub risen_all : {n : ℕ} → 0 < m → m ≤ n → Rising f at n m
-    risen_all some few =
-        record { some = some; few = few; up = λ j h. risen.up j h ∙ rw risen.is; small = rw (← risen.is) risen.small }
-
-pub ruleset rising_cases = (risen_one, risen_more, risen_all)
 
 -- ---- `next_stretch`
 -- before the first entry nothing is left of a run

@@ -1,29 +1,13 @@
 -- What reading page numbers in runs promises. None of it is part of an operation's own promise.
-use Rattle.std.specs.Prelude.{◌≡◌, false, ℕ, ◌+◌, ◌-◌, ◌*◌, ◌^◌, min, ◌≤◌, ◌<◌}
-use Rattle.outcome.specs.Outcome.{Outcome, ok, refused}
-use Rattle.outcome.specs.Refusal as paper
+use Rattle.std.specs.Prelude.{◌≡◌, false, ℕ, ◌+◌, ◌-◌, ◌*◌, ◌^◌, min, ◌≤◌, ◌<◌, Ok}
 use Rattle.parse_buffer.specs.Bytes.{File, word}
-use Rattle.paged.specs.Refusal.{refusal_in}
 use Rattle.paged.specs.Pages.{first_entry, through, location, directory_page, page_of}
 use Rattle.paged.specs.Inner.{words_left}
 use Rattle.paged.specs.Checks.{page_fits, check_pages}
-use Rattle.paged.specs.declared.refusal.Refusal.{Refusal}
-use Rattle.paged.specs.declared.refusal.Refusal.TheVariants.{ShortData}
 use Rattle.paged.specs.declared.pages.Pages.{Pages}
 use Rattle.paged.specs.declared.pages.Pages.TheVariants.{Location, Directory, Stream}
-use Rattle.runs.specs.declared.Checked.{Checked}
-use Rattle.runs.specs.declared.Checked.TheVariants as checked
 use Rattle.runs.specs.declared.Run.{Run}
 use Rattle.runs.specs.declared.stretch.Stretch.{Stretch}
-
--- ---- what a check's answer says on paper, and why it did not pass (of one that passed that is never asked)
-unfoldable pub checked_in : Checked → Outcome paper.Refusal (Unit {0})
-checked_in checked.Fine = ok tt
-checked_in (checked.Refused why) = refused (refusal_in why)
-
-abbrev pub why_checked : Checked → Refusal
-why_checked (checked.Refused why) = why
-why_checked checked.Fine = ShortData
 
 -- ---- where entry i of a list stands in the file: its page number is the word there
 unfoldable pub entry_place : File → ℕ → Pages → ℕ → ℕ
@@ -47,7 +31,7 @@ in_page p at w n = record { at = at; words = min (words_left p w) n }
 -- r of the n words at a place pass, and the next, if there is one, does not
 pub record Fitting (f : File) (at n used r : ℕ) : Type 0 where
   pub few : r ≤ n
-  pub fit : check_pages used (λ j. word f (at + 4 * j)) r ≡ ok tt
+  pub fit : check_pages used (λ j. word f (at + 4 * j)) r ≡ Ok tt
   pub stop : r < n → page_fits used (word f (at + 4 * r)) ≡ false
 
 -- ---- m of the n words at a place go up by one

@@ -10,18 +10,20 @@ use crate::{Run, run_of};
 use paged::{PageNumber, Pages};
 use parse_buffer::word_in;
 
-#[derive(Clone, Copy)]
+/// Pages that lie next to each other, and where the reading of their list stands.
+#[derive(Clone, Copy, Debug, PartialEq, Eq)]
 pub struct Stretch {
-    // The first page, and how many there are.
+    /// The first page.
     pub page: PageNumber,
+    /// How many there are.
     pub pages: usize,
-    // The entry after the last of them.
+    /// The entry after the last of them.
     pub next: usize,
-    // What is left of the run that they were read from.
+    /// What is left of the run that they were read from.
     pub rest: Run,
 }
 
-// The stretch of no entries, before entry 0.
+/// The stretch of no entries, before entry 0.
 pub fn before_first() -> Stretch
     ensures { result ≡ before_first }
 {
@@ -33,7 +35,7 @@ pub fn before_first() -> Stretch
     }
 }
 
-// The stretch after this one, of a list of n entries. It may end before the page numbers stop going up, with its run.
+/// The stretch after this one, of a list of n entries. It may end before the page numbers stop going up, with its run.
 pub fn next_stretch(file: &[u8], size: usize, pages: Pages, n: usize, s: Stretch) -> Stretch
     requires page_size { PageSize size }
     requires n_bound { entry_of pages n ≤ 2 ^ 32 }
@@ -42,19 +44,16 @@ pub fn next_stretch(file: &[u8], size: usize, pages: Pages, n: usize, s: Stretch
     requires next_lt_n { s.next < n }
     ensures { Stretching (byte_at file.now) size pages n s.next result }
 {
-    let i = s.next;
-    let rest = s.rest;
-    let run = some_run(file, size, pages, i, n - i, rest);
-    let page = word_in(file, run.at);
+    let run = some_run(file, size, pages, s.next, n - s.next, s.rest);
     let m = rising(file, run.at, run.words);
-    let next = i + m;
-    let at = run.at + 4 * m;
-    let words = run.words - m;
     Stretch {
-        page: PageNumber(page),
+        page: PageNumber(word_in(file, run.at)),
         pages: m,
-        next,
-        rest: Run { at, words },
+        next: s.next + m,
+        rest: Run {
+            at: run.at + 4 * m,
+            words: run.words - m,
+        },
     }
 }
 
@@ -68,9 +67,10 @@ fn some_run(file: &[u8], size: usize, pages: Pages, i: usize, n: usize, rest: Ru
     ensures words_nonzero { 0 < result.words }
 {
     if rest.words == 0 {
-        return run_of(file, size, pages, i, n);
+        run_of(file, size, pages, i, n)
+    } else {
+        rest
     }
-    rest
 }
 
 // How many of the n words at a place go up by one, from the first on.
@@ -80,12 +80,10 @@ fn rising(file: &[u8], at: usize, n: usize) -> usize
     ensures { Rising (byte_at file.now) at n result }
 {
     let first = word_in(file, at) as usize;
-    let mut m: usize = 1;
-    while m < n {
+    for m in 1..n {
         if word_in(file, at + 4 * m) as usize != first + m {
             return m;
         }
-        m += 1;
     }
-    m
+    n
 }

@@ -1,19 +1,20 @@
 -- The shortest form by its three sizes, and the ways out of the functions that measure it and put it.
 use mathlib.Core.Path.{◌≡◌, refl, sym, ◌∙◌}
 use mathlib.Core.Bool.{Bool, true, false}
-use mathlib.Core.List.{List, [], ◌∷◌}
-use Prim.Native.Nat.{ℕ, suc, ◌+◌, ◌/◌, ◌%◌, ◌^◌, ◌≤◌, ◌<◌}
+use mathlib.Core.List.{List, [], ◌∷◌, ◌++◌}
+use Prim.Native.Nat.{ℕ, zero, suc, ◌+◌, ◌/◌, ◌%◌, ◌^◌, ◌≤◌, ◌<◌}
 use native.Mathlib.Omega.{arith}
-use native.Mathlib.Numerals.{add-one, add-two}
+use native.Mathlib.Nat.{div-div-eq-div-mul, div-add-mod'}
 use borrow.Author.Tests.{lt-ltb, le-ltb, ltb-true, ltb-false}
 use lib.Dec.{ltb}
-use lib.ListN.{length, set}
-use lib.Seq.{sets, length-sets}
+use mir.Syntax.{w16, w32}
+use lib.ListN.{length}
+use Rattle.std.specs.Int.{to_be_bytes}
+use Rattle.std.proofs.lemmas.Nat.{be_bytes_2, be_bytes_4}
 use Rattle.outcome.proofs.OutcomeLaws.{by_test}
 use Rattle.numbers.specs.Number.{short_width}
 use Rattle.numbers.proofs.FormLaws.{shortest_one, shortest_two, shortest_four}
-use Rattle.store.specs.Putting.{Putting}
-use Rattle.shortest.specs.Short.{short}
+use Rattle.shortest.specs.Short.{Bytes, short}
 
 module _ (n : ℕ) where
   pub short_one : n < 0x80 → short n ≡ n ∷ []
@@ -49,9 +50,6 @@ short_length n = go (ltb n 0x80) (ltb n 0x4000) refl refl
         sym (width_two n h k) ∙ shortest_two n h k
     go false false e f = let h = ltb-false n 0x4000 f in sym (width_four n h) ∙ shortest_four n h
 
-pub counted : (n : ℕ) {w : ℕ} → w ≡ short_width n → w ≡ length (short n)
-counted n e = e ∙ sym (short_length n)
-
 -- a form has one to four bytes
 pub short_some : (n : ℕ) → 1 ≤ length (short n)
 unfolding short
@@ -65,30 +63,29 @@ short_most n =
     let P : List ℕ → Type 0 = λ l. length l ≤ 4 in
     by_test P (ltb n 0x80) (λ _. omega arith) (λ _. by_test P (ltb n 0x4000) (λ _. omega arith) (λ _. omega arith))
 
--- ---- `put_short`: its room is that of its form
-module _ (n at len : ℕ) (room : at + length (short n) ≤ len) where
-  pub room_one : n < 0x80 → at < len
-  room_one h = omega (arith, width_one n h)
+-- ---- lists of bytes
+pub data AllBytes : List ℕ → Type 0 where
+  none : AllBytes []
+  more : {b : ℕ} {l : List ℕ} → b < 256 → AllBytes l → AllBytes (b ∷ l)
 
-  pub room_two : 0x80 ≤ n → n < 0x4000 → at + 2 ≤ len
-  room_two h k = omega (arith, width_two n h k)
+pub all_append : {a b : List ℕ} → AllBytes a → AllBytes b → AllBytes (a ++ b)
+all_append none q = q
+all_append (more h p) q = more h (all_append p q)
 
-  pub room_four : 0x4000 ≤ n → at + 4 ≤ len
-  room_four h = omega (arith, width_four n h)
+pub bytes_at_lem : {l : List ℕ} → AllBytes l → Bytes l
+bytes_at_lem none i = omega arith
+bytes_at_lem (more h p) zero = h
+bytes_at_lem (more h p) (suc i) = bytes_at_lem p i
 
--- the bytes put one by one are `sets` of the form
-module _ (out : List ℕ) (at n : ℕ) where
-  put : {bytes : List ℕ} → short n ≡ bytes → at + length bytes ≤ length out → Putting (short n) out at (sets out at bytes) (at + length bytes)
-  put e room = record { store = rw e; place = rw e; within = rw length-sets room }
+-- ---- `put_short`: one byte, or the bytes of the number with the mark of its form
+module _ (n : ℕ) where
+  pub two_bytes : 0x80 ≤ n → n < 0x4000 → short n ≡ to_be_bytes w16 (0x8000 + n)
+  two_bytes h k = short_two n h k ∙ sym (be_bytes_2 _ (0x8000 + n) refl (bytes_at_lem (more (omega arith) (more (omega arith) none))) (omega arith))
 
-  pub put_one : n < 0x80 → at < length out → Putting (short n) out at (set out at n) (at + 1)
-  put_one h room = put (short_one n h) (omega arith)
+  pub four_bytes : 0x4000 ≤ n → n < 2 ^ 29 → short n ≡ to_be_bytes w32 (0xc0000000 + n)
+  four_bytes h k = short_four n h ∙ sym (be_bytes_4 _ (0xc0000000 + n) refl (bytes_at_lem (more (omega arith) (more (omega arith) (more (omega arith) (more (omega arith) none)))))
+      (let d : n / 2 ^ 8 / 2 ^ 8 ≡ n / 2 ^ 16 = div-div-eq-div-mul n (2 ^ 8) (2 ^ 8) in
+      let d' : n / 2 ^ 16 / 2 ^ 8 ≡ n / 2 ^ 24 = div-div-eq-div-mul n (2 ^ 16) (2 ^ 8) in
+      omega (arith, div-add-mod' n (2 ^ 8), div-add-mod' (n / 2 ^ 8) (2 ^ 8), div-add-mod' (n / 2 ^ 16) (2 ^ 8))))
 
-  pub put_two : 0x80 ≤ n → n < 0x4000 → at + 2 ≤ length out → Putting (short n) out at (set (set out at (0x80 + n / 2 ^ 8)) (at + 1) (n % 256)) (at + 2)
-  put_two h k room = rw add-one (put (short_two n h k) room)
-
-  pub put_four : 0x4000 ≤ n → at + 4 ≤ length out → Putting (short n) out at (set (set (set (set out at (0xc0 + n / 2 ^ 24)) (at + 1) (n / 2 ^ 16 % 256)) (at + 2) (n / 2 ^ 8 % 256)) (at + 3) (n % 256)) (at + 4)
-  put_four h room =
-      let e : at + 3 ≡ suc (suc (suc at)) = omega arith in rw (add-one, add-two, e) (put (short_four n h) room)
-
-pub ruleset put_cases = (put_two, put_four)
+pub ruleset put_cases = (short_one, two_bytes, four_bytes)

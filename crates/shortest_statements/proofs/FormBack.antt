@@ -11,7 +11,7 @@ use borrow.Author.Tests.{eqb-true, ltb-true, ltb-false, leb-true}
 use lib.Dec.{eqb, leb, ltb}
 use lib.ListN.{length, get_or, take, drop, take-append-drop}
 use lib.Seq.{length-take-le, drop-cons, drop-drop, drop-append_seam}
-use Rattle.outcome.specs.Outcome.{Outcome, ok, refused}
+use Rattle.std.specs.Prelude.{Result, Ok, Err}
 use Rattle.outcome.proofs.OutcomeLaws.{by_test, below_or, ok_is, ok_refused}
 use Rattle.numbers.specs.Refusal.{Stop}
 use Rattle.numbers.specs.Number.{short_width, number_of, number_at}
@@ -23,10 +23,10 @@ use Rattle.shortest.proofs.ShortLaws.{short_one, short_two, short_four}
 use Rattle.shortest.proofs.ReadLaws.{short_reads_in}
 
 -- ---- how large it is
-pub number_small : (s : List ℕ) (at : ℕ) → Bytes s → {n : Number} → number_at s at ≡ ok n → n.value < 2 ^ 29
+pub number_small : (s : List ℕ) (at : ℕ) → Bytes s → {n : Number} → number_at s at ≡ Ok n → n.value < 2 ^ 29
 number_small s at bytes {n} = go _ (form_at s at)
   where
-    go : (o : Outcome Stop Number) → Form s at o → o ≡ ok n → n.value < 2 ^ 29
+    go : (o : Result Number Stop) → Form s at o → o ≡ Ok n → n.value < 2 ^ 29
     go _ (Form.one l) e = rw (← ok_is e) (omega (arith, bytes at))
     go _ (Form.two l) e = rw (← ok_is e) (omega (arith, bytes (at + 1)))
     go _ (Form.four l) e = rw (← ok_is e) (omega (arith, bytes (at + 1), bytes (at + 2), bytes (at + 3)))
@@ -92,7 +92,7 @@ drop_four s at l =
     ∙ ap (λ r. get_or s at 0 ∷ get_or s (at + 1) 0 ∷ r) (rw (three, four) at (drop_two s (at + 2) (omega arith)))
 
 -- ---- a shortest number stands in its form, and then come the bytes from the place after it
-pub number_back : (s : List ℕ) (at : ℕ) → Bytes s → {n : Number} → number_at s at ≡ ok n → n.shortest ≡ true
+pub number_back : (s : List ℕ) (at : ℕ) → Bytes s → {n : Number} → number_at s at ≡ Ok n → n.shortest ≡ true
     → drop at s ≡ short n.value ++ drop n.next s
 unfolding number_at
 number_back s at bytes {n} =
@@ -121,13 +121,13 @@ number_back s at bytes {n} =
     Stands : Number → Type 0
     Stands y = y.shortest ≡ true → drop at s ≡ short y.value ++ drop y.next s
 
-    P : Outcome Stop Number → Type 0
-    P o = o ≡ ok n → Stands n
+    P : Result Number Stop → Type 0
+    P o = o ≡ Ok n → Stands n
 
-    read : (y : Number) → Stands y → P (ok y)
+    read : (y : Number) → Stands y → P (Ok y)
     read y h e = let f : y ≡ n = ok_is e in rw (← f) h
 
-    none : {why : Stop} → P (refused why)
+    none : {why : Stop} → P (Err why)
     none e = absurd (ok_refused (sym e))
 
 -- ---- a number that is read where a form stands
@@ -136,12 +136,12 @@ pub record OfForm (s : List ℕ) (m : ℕ) (later : List ℕ) (n : Number) : Typ
   pub shortest : n.shortest ≡ true
   pub after : drop n.next s ≡ later
 
-pub number_of_form : (s : List ℕ) (at m : ℕ) {n : Number} {later : List ℕ} → number_at s at ≡ ok n → m < 2 ^ 29
+pub number_of_form : (s : List ℕ) (at m : ℕ) {n : Number} {later : List ℕ} → number_at s at ≡ Ok n → m < 2 ^ 29
     → drop at s ≡ short m ++ later → OfForm s m later n
 number_of_form s at m {n} {later} e l h =
     let place : length (take at s) ≡ at = length-take-le at s (let k = number_in s at e in omega arith) in
     let whole : take at s ++ (short m ++ later) ≡ s = rw (← h) (take-append-drop at s) in
-    let reads : number_at s at ≡ ok (short_number at m) = rw (whole, place) at (short_reads_in (take at s) later m l) in
+    let reads : number_at s at ≡ Ok (short_number at m) = rw (whole, place) at (short_reads_in (take at s) later m l) in
     let same : short_number at m ≡ n = ok_is (sym reads ∙ e) in
     let w = length (short m) in
     let after : drop (at + w) s ≡ later = sym (drop-drop w at s) ∙ ap (drop w) h ∙ drop-append_seam (short m) later in

@@ -9,7 +9,8 @@ use native.Mathlib.Nat.{zero-add}
 use borrow.Author.Tests.{eq-eqb, le-leb}
 use lib.ListN.{length}
 use lib.IntN.{ℤ, pos, nat_abs}
-use Rattle.outcome.specs.Outcome.{ok, ◌>>=◌, ◌>>◌, require}
+use Rattle.std.specs.Prelude.{Ok}
+use Rattle.outcome.specs.Outcome.{and_next, and_then, require}
 use Rattle.outcome.proofs.EachLaws.{each_none, each_run}
 use Rattle.annotations.specs.Annotation.{triple}
 use Rattle.annotations.specs.Step.{PlacedTriple}
@@ -79,12 +80,12 @@ writable_at (more {t} {later} w ws) (suc k) l =
     rw (record_later (pos t.opcode) t.first t.second (flat later) k) (writable_at ws k (omega arith))
 
 pub flat_writing : {ts : List Triple} (room : ℕ) → Writables ts → length (bytes_of ts) ≤ room
-    → writing (flat ts) room ≡ ok (length (bytes_of ts))
-unfolding writing measuring require ◌>>=◌ ◌>>◌
+    → writing (flat ts) room ≡ Ok (length (bytes_of ts))
+unfolding writing measuring require and_then and_next
 flat_writing {ts} room ws l =
     let whole : length (flat ts) % entries_each ≡ 0 = omega (arith, flat_length ts) in
     let n = length ts in
     let size = length (bytes_of ts) in
-    let fine : judging (flat ts) n ≡ ok tt =
+    let fine : judging (flat ts) n ≡ Ok tt =
     rw (← zero-add n) (each_run _ _ 0 n (each_none _ _) (λ j m. rw (zero-add j) (writable_at ws j m))) in
     rw (eq-eqb (length (flat ts) % entries_each) 0 whole, flat_count ts, fine, flat_annotations ts, le-leb size room l)

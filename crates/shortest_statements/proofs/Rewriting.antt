@@ -8,7 +8,7 @@ use native.Mathlib.Omega.{arith}
 use lib.ListN.{length, take, drop, length-append, length-drop, take-append-drop}
 use lib.Seq.{take_at}
 use lib.IntN.{pos, nat_abs}
-use Rattle.outcome.specs.Outcome.{ok}
+use Rattle.std.specs.Prelude.{Ok}
 use Rattle.numbers.specs.Number.{flag}
 use Rattle.annotations.specs.Step.{PlacedTriple}
 use Rattle.annotations.proofs.ReadLaws.{step_read}
@@ -79,7 +79,7 @@ module _ (s : List ℕ) (room n : ℕ) where
   abbrev found : List PlacedTriple
   found = (decode_all s).found
 
-  module _ (e : decoding s room ≡ ok n) where
+  module _ (e : decoding s room ≡ Ok n) where
     many : n ≡ length found
     many = ((decode_exactly.is s room n).0 e).0
 
@@ -105,12 +105,12 @@ module _ (s : List ℕ) (room n : ℕ) where
         (sym (take_at b (drop e s) e ends) ∙ ap (take e) (sym stands))
 
     is_written : (room' : ℕ) → (decode_all s).at ≤ room'
-        → writing (first_threes (decoded_entries s) n) room' ≡ ok (decode_all s).at
+        → writing (first_threes (decoded_entries s) n) room' ≡ Ok (decode_all s).at
     is_written room' l =
         let fine = steps_writable a.are_bytes (agreement.is s).steps in
         rw (records a.accepted, ← ends) (flat_writing room' fine (omega (arith, ends)))
 
-  only_again : Bytes s → decoding s room ≡ ok n → SameBytes s n → Again s room n
+  only_again : Bytes s → decoding s room ≡ Ok n → SameBytes s n → Again s room n
   only_again bytes e h =
       let b = bytes_of (triples found) in
       let rest = drop (decode_all s).at s in

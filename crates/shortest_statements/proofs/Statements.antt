@@ -6,17 +6,18 @@ use mathlib.Core.List.{List}
 use Prim.Native.Nat.{ℕ, ◌+◌, ◌≤◌}
 use native.Mathlib.Omega.{arith}
 use borrow.Author.Tests.{eq-eqb, eqb-true}
-use Rattle.outcome.specs.Outcome.{ok}
+use Rattle.std.specs.Prelude.{Ok}
 use Rattle.numbers.specs.Number.{number_at, short_width, is_shortest}
 use Rattle.numbers.specs.declared.number.Number.{Number}
 use Rattle.numbers.proofs.MoveLaws.{number_is}
 use Rattle.shortest.specs.Short.{Bytes, short}
 use Rattle.shortest.proofs.ShortLaws.{short_length}
-use Rattle.shortest.proofs.ReadLaws.{short_reads, number_least, bytes_at_lem, short_bytes}
+use Rattle.shortest.proofs.ReadLaws.{short_reads, number_least, short_bytes}
+use Rattle.shortest.proofs.ShortLaws.{bytes_at_lem}
 use Rattle.shortest_statements.specs.Statements.{Taken, NoShorter, ShortestExactly}
 use Rattle.shortest_statements.proofs.FormBack.{number_small}
 
-module _ (s : List ℕ) (at : ℕ) (x : Number) (e : number_at s at ≡ ok x) where
+module _ (s : List ℕ) (at : ℕ) (x : Number) (e : number_at s at ≡ Ok x) where
   ends : x.next ≡ at + x.taken
   ends = ap (λ (n : Number). n.next) (number_is s at e)
 
@@ -32,10 +33,10 @@ taken =
 
 -- ---- the shortest form
 -- no form of bytes takes fewer
-least : (s : List ℕ) (at : ℕ) (x : Number) → Bytes s → number_at s at ≡ ok x → short_width x.value ≤ x.taken
+least : (s : List ℕ) (at : ℕ) (x : Number) → Bytes s → number_at s at ≡ Ok x → short_width x.value ≤ x.taken
 least s at x bytes e = omega (arith, number_least s at bytes e, ends s at x e, short_length x.value)
 
-module _ (s : List ℕ) (at : ℕ) (x : Number) (bytes : Bytes s) (e : number_at s at ≡ ok x) where
+module _ (s : List ℕ) (at : ℕ) (x : Number) (bytes : Bytes s) (e : number_at s at ≡ Ok x) where
   no_shorter : x.shortest ≡ true → NoShorter x
   no_shorter h s' at' y bytes' e' same =
       let width : x.taken ≡ short_width x.value = eqb-true _ _ (sym (says s at x e) ∙ h) in

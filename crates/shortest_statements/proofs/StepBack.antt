@@ -5,7 +5,7 @@ use mathlib.Core.List.{List, ◌++◌, append_assoc}
 use Prim.Native.Nat.{ℕ, ◌^◌, ◌<◌}
 use native.Mathlib.Omega.{arith}
 use lib.ListN.{drop}
-use Rattle.outcome.specs.Outcome.{ok}
+use Rattle.std.specs.Prelude.{Ok}
 use Rattle.outcome.proofs.OutcomeLaws.{ok_is}
 use Rattle.numbers.specs.Number.{number_at}
 use Rattle.numbers.specs.declared.number.Number.{Number}
@@ -25,8 +25,8 @@ both true b e = (refl, e)
 both false b e = (e, cc)
 
 -- numbers that are read at the same places are the same
-same_numbers : (s : List ℕ) (at : ℕ) {code code' v v' : Number} → number_at s at ≡ ok code → number_at s at ≡ ok code'
-    → number_at s code.next ≡ ok v → number_at s code'.next ≡ ok v'
+same_numbers : (s : List ℕ) (at : ℕ) {code code' v v' : Number} → number_at s at ≡ Ok code → number_at s at ≡ Ok code'
+    → number_at s code.next ≡ Ok v → number_at s code'.next ≡ Ok v'
     → odd_zero code.value v.value ≡ false → odd_zero code'.value v'.value ≡ false
 same_numbers s at {code} {code'} {v} {v'} e f g h k =
     let opcode : code ≡ code' = ok_is (sym e ∙ f) in

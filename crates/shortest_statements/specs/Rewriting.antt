@@ -1,7 +1,6 @@
 -- Request 2026-06 and the writer of 2026-01: "The other way need not hold, since longer forms and operand 1 exist".
 -- Where there are neither, it holds, and only there. proofs/Rewriting.antt proves the record `Rewriting`.
-use Rattle.std.specs.Prelude.{◌≡◌, Bool, false, cond, List, [], ◌∷◌, ◌++◌, ℕ, zero, suc, ◌+◌, ◌*◌, ◌/◌, ◌≤◌, ◌<◌, eqb, get_or, take, drop, ℤ, pos}
-use Rattle.outcome.specs.Outcome.{ok}
+use Rattle.std.specs.Prelude.{◌≡◌, Bool, false, cond, List, [], ◌∷◌, ◌++◌, ℕ, zero, suc, ◌+◌, ◌*◌, ◌/◌, ◌≤◌, ◌<◌, eqb, get_or, take, drop, ℤ, pos, Ok}
 use Rattle.numbers.specs.Number.{number_at}
 use Rattle.numbers.specs.declared.number.Number.{Number}
 use Rattle.annotations.specs.Step.{PlacedTriple}
@@ -26,7 +25,7 @@ odd_zero op v = cond (is_signed op) (eqb v 1) (cond (eqb op 11) (eqb (v / 16) 1)
 
 -- the first operand of the annotation at a place is none
 abbrev pub NoOddZero : List ℕ → ℕ → Type 0
-NoOddZero s at = (code v : Number) → number_at s at ≡ ok code → number_at s code.next ≡ ok v
+NoOddZero s at = (code v : Number) → number_at s at ≡ Ok code → number_at s code.next ≡ Ok v
     → odd_zero code.value v.value ≡ false
 
 -- so it is at each place where one of these annotations begins: the first here, each other where the one before ends
@@ -38,7 +37,7 @@ pub data NoOddZeros (s : List ℕ) : ℕ → List PlacedTriple → Type 0 where
 -- what can be written again as it was: decoding accepts it, all numbers were shortest, and there is no odd zero
 pub record Again (s : List ℕ) (room n : ℕ) : Type 0 where
   pub are_bytes : Bytes s
-  pub accepted : decoding s room ≡ ok n
+  pub accepted : decoding s room ≡ Ok n
   pub all_shortest : AllShortest (decoded_entries s) n
   pub no_odd_zeros : NoOddZeros s 0 (decode_all s).found
 
@@ -50,5 +49,5 @@ SameBytes s n = list_bytes (first_threes (decoded_entries s) n) ≡ take (decode
 pub record Rewriting : Type 0 where
   pub bytes : (s : List ℕ) (room n : ℕ) → Again s room n → SameBytes s n
   pub written : (s : List ℕ) (room n : ℕ) → Again s room n → (room' : ℕ) → (decode_all s).at ≤ room'
-      → writing (first_threes (decoded_entries s) n) room' ≡ ok (decode_all s).at
-  pub only : (s : List ℕ) (room n : ℕ) → Bytes s → decoding s room ≡ ok n → SameBytes s n → Again s room n
+      → writing (first_threes (decoded_entries s) n) room' ≡ Ok (decode_all s).at
+  pub only : (s : List ℕ) (room n : ℕ) → Bytes s → decoding s room ≡ Ok n → SameBytes s n → Again s room n

@@ -8,7 +8,6 @@ use native.Mathlib.Nat.{suc-mul, add-mul, add-zero, add-suc, add_assoc, le_antis
 use native.Mathlib.Numerals.{add-one}
 use native.Mathlib.Decide.{le_ind}
 use borrow.Author.Tests.{eq-eqb, ne_eqb}
-use lib.Dec.{eqb}
 use lib.ListN.{length, set, length-append, length-map}
 use lib.Seq.{sets, set-set, length-sets}
 use Rattle.outcome.proofs.OutcomeLaws.{by_test}
@@ -27,14 +26,7 @@ use Rattle.slices.proofs.SliceLaws.{longer_last, push, pieces, cut_is}
 use Rattle.slices.specs.declared.SourceSlice.{SourceSlice}
 use Rattle.slices.specs.declared.Walk.{Walk}
 
--- ---- `follows` and `extend`, by their branches
-module _ (count after page : ℕ) where
-  pub none_before : count ≡ 0 → false ≡ joins count after page
-  none_before z = rw (eq-eqb count 0 z)
-
-  pub some_before : (count ≡ 0 → ⊥) → eqb page after ≡ joins count after page
-  some_before z = rw (ne_eqb count 0 z)
-
+-- ---- `extend`, by its branches
 -- the two walks that there may be after m pages more: the last slice is longer, or there is a new one
 abbrev Longer : Walk → ℕ → ℕ → ℕ → Walk
 Longer w a m n =

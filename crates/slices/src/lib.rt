@@ -2,9 +2,12 @@
 // walked a stretch at a time, each with as many of its bytes as the length still wants: `push` and `truncate` in one
 // step.
 //
-// `count_slices` counts, `write_slices` writes two lent stores. A caller with another kind of store uses `begin` and
-// `extend`.
+// stretches.rt: the stretches of an extent's pages as an iterator, for every loop over them. This file: the walk over
+// them. `count_slices` counts, `write_slices` writes two lent stores. A caller with another kind of store uses `begin`
+// and `extend`.
 #![tactic(auto)]
+
+mod stretches;
 
 ghost use Rattle.std.specs.Prelude.{◌≡◌, ◌-◌, ◌<◌, ◌≤◌, length, set};
 ghost use Rattle.parse_buffer.specs.Bytes.{byte_at};
@@ -13,42 +16,39 @@ ghost use Rattle.slices.specs.Inner.{slices_through, start, joins, onward, Near,
 
 use extent::Extent;
 use paged::{PageNumber, span_of};
-use runs::{Stretch, before_first, next_stretch};
+use runs::Stretch;
+pub use stretches::Stretches;
 
-// An offset and a size in the file.
-#[derive(Clone, Copy)]
+/// An offset and a size in the file.
+#[derive(Clone, Copy, Debug, PartialEq, Eq)]
 pub struct SourceSlice {
     pub offset: u64,
     pub size: usize,
 }
 
-// Where a walk stands: how many slices there are so far, the page that would lengthen the last of them, and that slice
-// as far as it reaches.
-#[derive(Clone, Copy)]
+/// Where a walk stands: how many slices there are so far, the page that would lengthen the last of them, and that slice
+/// as far as it reaches.
+#[derive(Clone, Copy, Debug, PartialEq, Eq)]
 pub struct Walk {
     pub count: usize,
     pub after: usize,
     pub slice: SourceSlice,
 }
 
-// How many slices these bytes make.
+/// How many slices these bytes make.
 pub fn count_slices(file: &[u8], x: Extent) -> usize
     requires extends { Extends x }
     requires entries_lie { EntriesLie (byte_at file.now) (length file.now) x }
     ensures { result ≡ length (slices_through (byte_at file.now) x) }
 {
     let mut walk = begin();
-    let mut s = before_first();
-    while s.next < x.pages {
-        let i = s.next;
-        let list = x.list;
-        s = next_stretch(file, x.pagesize, list, x.pages, s);
-        walk = extend(x, i, s, walk);
+    for s in Stretches::new(file, x) {
+        walk = extend(x, s.next - s.pages, s, walk);
     }
     walk.count
 }
 
-// Writes the slices to the front of the two stores, and returns how many there are. The caller guarantees room.
+/// Writes the slices to the front of the two stores, and returns how many there are. The caller guarantees room.
 pub fn write_slices(file: &[u8], x: Extent, offsets: &mut [u64], sizes: &mut [u64]) -> usize
     requires extends { Extends x }
     requires entries_lie { EntriesLie (byte_at file.now) (length file.now) x }
@@ -58,18 +58,14 @@ pub fn write_slices(file: &[u8], x: Extent, offsets: &mut [u64], sizes: &mut [u6
         offsets.old sizes.old offsets.new sizes.new }
 {
     let mut walk = begin();
-    let mut s = before_first();
-    while s.next < x.pages {
-        let i = s.next;
-        let list = x.list;
-        s = next_stretch(file, x.pagesize, list, x.pages, s);
-        walk = extend(x, i, s, walk);
+    for s in Stretches::new(file, x) {
+        walk = extend(x, s.next - s.pages, s, walk);
         put(offsets, sizes, walk);
     }
     walk.count
 }
 
-// A walk over no page yet.
+/// A walk over no page yet.
 pub fn begin() -> Walk
     ensures { result ≡ start }
 {
@@ -80,45 +76,41 @@ pub fn begin() -> Walk
     }
 }
 
-// The walk over a stretch of pages too, from page i on.
+/// The walk over a stretch of pages too, from page i on.
 pub fn extend(x: Extent, i: usize, s: Stretch, walk: Walk) -> Walk
     requires extends { Extends x }
     requires ahead { Ahead x i s }
     requires near { Near x.pagesize i walk }
     ensures { result ≡ onward x i s walk }
 {
-    let page = s.page;
     let more = span_of(x.pagesize, x.bytes, i, s.pages);
-    let after = page.0 as usize + s.pages;
-    let slice = walk.slice;
-    if follows(walk.count, walk.after, page) {
-        let size = slice.size + more;
-        return Walk {
+    let after = s.page.0 as usize + s.pages;
+    if follows(walk, s.page) {
+        Walk {
             count: walk.count,
             after,
             slice: SourceSlice {
-                offset: slice.offset,
-                size,
+                offset: walk.slice.offset,
+                size: walk.slice.size + more,
             },
-        };
-    }
-    let offset = page.0 as u64 * x.pagesize as u64;
-    let count = walk.count + 1;
-    Walk {
-        count,
-        after,
-        slice: SourceSlice { offset, size: more },
+        }
+    } else {
+        Walk {
+            count: walk.count + 1,
+            after,
+            slice: SourceSlice {
+                offset: u64::from(s.page.0) * x.pagesize as u64,
+                size: more,
+            },
+        }
     }
 }
 
 // Whether a page lengthens the last slice.
-fn follows(count: usize, after: usize, page: PageNumber) -> bool
-    ensures { result ≡ joins count after page.0 }
+fn follows(walk: Walk, page: PageNumber) -> bool
+    ensures { result ≡ joins walk.count walk.after page.0 }
 {
-    if count == 0 {
-        return false;
-    }
-    page.0 as usize == after
+    walk.count != 0 && page.0 as usize == walk.after
 }
 
 // The last slice, as far as it reaches, in its place.
@@ -129,8 +121,6 @@ fn put(offsets: &mut [u64], sizes: &mut [u64], walk: Walk)
     ensures offsets_after { offsets.new ≡ set offsets.old (walk.count - 1) walk.slice.offset }
     ensures sizes_after { sizes.new ≡ set sizes.old (walk.count - 1) walk.slice.size }
 {
-    let at = walk.count - 1;
-    let slice = walk.slice;
-    offsets[at] = slice.offset;
-    sizes[at] = slice.size as u64;
+    offsets[walk.count - 1] = walk.slice.offset;
+    sizes[walk.count - 1] = walk.slice.size as u64;
 }

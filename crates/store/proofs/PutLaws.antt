@@ -1,11 +1,11 @@
 -- What putting a run leaves, entry by entry; runs put one after another; and what a copy into a lent part of a store
 -- leaves of the whole store.
 use mathlib.Core.Path.{◌≡◌, refl, sym, ◌∙◌, ap}
-use mathlib.Core.List.{List, [], ◌++◌, append_assoc, append-nil}
+use mathlib.Core.List.{List, ◌++◌, append_assoc}
 use Prim.Native.Nat.{ℕ, ◌+◌, ◌-◌, ◌≤◌, ◌<◌}
 use native.Mathlib.Omega.{arith}
-use lib.ListN.{length, get_or, take, drop, length-append, length-take, length-drop, drop_of_length-le}
-use lib.Seq.{sets, sets-eq, length-sets, length-take-le, take_all, take_at, drop-drop, get_or-take, get_or-drop}
+use lib.ListN.{length, get_or, take, drop, length-append, length-take, length-drop}
+use lib.Seq.{sets, sets-eq, length-sets, length-take-le, take_at, drop-drop, get_or-take, get_or-drop}
 use Rattle.store.specs.Putting.{Putting}
 use Rattle.store.proofs.SetsLaws.{sets_append, sets_before, sets_inside, sets_after}
 

@@ -4,7 +4,8 @@
 ghost use Rattle.std.specs.Prelude.{◌+◌, ◌≤◌, length};
 ghost use Rattle.store.specs.Putting.{Putting};
 
-// Puts these bytes at a place, and returns the place after them. The caller guarantees the room.
+/// Puts these bytes at a place, and returns the place after them. The caller guarantees the room.
+#[tactic(auto, using(crate::proofs::PutLaws::putting))]
 pub fn put(store: &mut [u8], at: usize, bytes: &[u8]) -> usize
     requires { at + length bytes.now ≤ length store.old }
     ensures { Putting bytes.now store.old at store.new result }

@@ -8,18 +8,17 @@ ghost use Rattle.annotations.specs.Signed.{signed_of};
 ghost use Rattle.annotations.specs.Annotation.{annotation_of};
 ghost use Rattle.triples.specs.Inner.{first_of, second_of};
 
-use annotations::{Triple, decode_signed_operand, long, wide};
+use annotations::{Triple, decode_signed_operand};
 
-// The numbers of an opcode and its operands. Only 12 has the second one, w.
+/// The numbers of an opcode and its operands. Only 12 has the second one, w.
+#[tactic(auto, unfolding(annotations::specs::Annotation::annotation_of))]
 pub fn triple_of(opcode: u32, v: u32, w: u32) -> Triple
     ensures { result ≡ annotation_of opcode v w }
 {
-    let first = first_of(opcode, v);
-    let second = second_of(opcode, v, w);
     Triple {
         opcode,
-        first,
-        second,
+        first: first_of(opcode, v),
+        second: second_of(opcode, v, w),
     }
 }
 
@@ -28,7 +27,7 @@ fn first_of(opcode: u32, v: u32) -> i64
     ensures { result ≡ first_of opcode v }
 {
     let signed = signed_of(v);
-    let unsigned = pick(opcode == 11, wide(v % 16), wide(v));
+    let unsigned = pick(opcode == 11, i64::from(v % 16), i64::from(v));
     let not_six = pick(opcode == 10, signed, unsigned);
     pick(opcode == 6, signed, not_six)
 }
@@ -37,7 +36,7 @@ fn first_of(opcode: u32, v: u32) -> i64
 fn second_of(opcode: u32, v: u32, w: u32) -> i64
     ensures { result ≡ second_of opcode v w }
 {
-    let unsigned = pick(opcode == 12, wide(w), 0);
+    let unsigned = pick(opcode == 12, i64::from(w), 0);
     pick(opcode == 11, signed_of(v / 16), unsigned)
 }
 
@@ -45,15 +44,12 @@ fn second_of(opcode: u32, v: u32, w: u32) -> i64
 fn pick(test: bool, yes: i64, no: i64) -> i64
     ensures { result ≡ cond test yes no }
 {
-    if test {
-        return yes;
-    }
-    no
+    if test { yes } else { no }
 }
 
 // The signed reading of an operand, as an entry of the store.
 fn signed_of(v: u32) -> i64
     ensures { result ≡ signed_of v }
 {
-    long(decode_signed_operand(v))
+    i64::from(decode_signed_operand(v))
 }

@@ -18,7 +18,7 @@ ghost use Rattle.container_crossing.specs.Promises.{Opens, Counts, Maps, Needs, 
 ghost use Rattle.annotations_crossing.specs.Promises.{Numbers, Steps, Decodes, Runs};
 ghost use Rattle.writers_crossing.specs.Promises.{Writes, Packs};
 
-// `value` is P, `used` is pages_used.
+/// `value` is P, `used` is pages_used.
 #[unsafe(no_mangle)]
 pub extern "C" fn trovespan_open(file: &[u8], value: &mut u64, used: &mut u64) -> u32
     ensures { Opens (byte_at file.now) (length file.now) result value.new used.new }
@@ -26,7 +26,7 @@ pub extern "C" fn trovespan_open(file: &[u8], value: &mut u64, used: &mut u64) -
     container_crossing::open(file, value, used)
 }
 
-// `value` is the number of streams.
+/// `value` is the number of streams.
 #[unsafe(no_mangle)]
 pub extern "C" fn trovespan_stream_count(file: &[u8], value: &mut u64) -> u32
     ensures { Counts (byte_at file.now) (length file.now) result value.new }
@@ -34,7 +34,7 @@ pub extern "C" fn trovespan_stream_count(file: &[u8], value: &mut u64) -> u32
     container_crossing::stream_count(file, value)
 }
 
-// `value` is the number of slices, `total` the number of their bytes. `limit` is used only if `limited`.
+/// `value` is the number of slices, `total` the number of their bytes. `limit` is used only if `limited`.
 #[unsafe(no_mangle)]
 pub extern "C" fn trovespan_map(
     file: &[u8],
@@ -53,7 +53,7 @@ pub extern "C" fn trovespan_map(
     container_crossing::map(file, stream, limited, limit, offsets, sizes, value, total)
 }
 
-// `value` is the number of bytes written. `limit` is used only if `limited`.
+/// `value` is the number of bytes written. `limit` is used only if `limited`.
 #[unsafe(no_mangle)]
 pub extern "C" fn trovespan_extract(
     file: &[u8],
@@ -69,8 +69,8 @@ pub extern "C" fn trovespan_extract(
     container_crossing::extract(file, stream, limited, limit, out, value)
 }
 
-// Which parts of the file mapping reads: the location list's slices, or the directory's if `directory`. `value` is
-// their number, `total` that of their bytes.
+/// Which parts of the file mapping reads: the location list's slices, or the directory's if `directory`. `value` is
+/// their number, `total` that of their bytes.
 #[unsafe(no_mangle)]
 pub extern "C" fn trovespan_needed_to_map(
     file: &[u8],
@@ -87,8 +87,8 @@ pub extern "C" fn trovespan_needed_to_map(
     container_crossing::needed_to_map(file, directory, offsets, sizes, value, total)
 }
 
-// `value` is the number, `taken` how many bytes it took, `shortest` 1 if no form of it is shorter, else 0. `next` is
-// the place after it or after its refusal.
+/// `value` is the number, `taken` how many bytes it took, `shortest` 1 if no form of it is shorter, else 0. `next` is
+/// the place after it or after its refusal.
 #[unsafe(no_mangle)]
 pub extern "C" fn trovespan_number(
     bytes: &[u8],
@@ -104,8 +104,8 @@ pub extern "C" fn trovespan_number(
     annotations_crossing::number(bytes, at, value, taken, shortest, next)
 }
 
-// `value` is the annotation's opcode, 1 to 13, or 0 at the end. `first` and `second` are its operands. `shortest` is 1
-// if all its numbers were shortest, else 0. `next` is the place after the annotation, the end or the refusal.
+/// `value` is the annotation's opcode, 1 to 13, or 0 at the end. `first` and `second` are its operands. `shortest` is 1
+/// if all its numbers were shortest, else 0. `next` is the place after the annotation, the end or the refusal.
 #[unsafe(no_mangle)]
 pub extern "C" fn trovespan_step(
     bytes: &[u8],
@@ -122,7 +122,7 @@ pub extern "C" fn trovespan_step(
     annotations_crossing::step(bytes, at, value, first, second, shortest, next)
 }
 
-// `value` is the number of annotations, `place` the place after a refusal. Refusal 10 has no place.
+/// `value` is the number of annotations, `place` the place after a refusal. Refusal 10 has no place.
 #[unsafe(no_mangle)]
 pub extern "C" fn trovespan_decode(
     bytes: &[u8],
@@ -135,7 +135,7 @@ pub extern "C" fn trovespan_decode(
     annotations_crossing::decode(bytes, store, value, place)
 }
 
-// `value` is the number of line records, `place` the place after a refusal of the decoder. 25 and 10 have no place.
+/// `value` is the number of line records, `place` the place after a refusal of the decoder. 25 and 10 have no place.
 #[unsafe(no_mangle)]
 pub extern "C" fn trovespan_run_lines(
     bytes: &[u8],
@@ -148,7 +148,7 @@ pub extern "C" fn trovespan_run_lines(
     annotations_crossing::run_lines(bytes, store, value, place)
 }
 
-// `value` is the number of bytes written.
+/// `value` is the number of bytes written.
 #[unsafe(no_mangle)]
 pub extern "C" fn trovespan_write_annotations(
     records: &[i64],
@@ -160,7 +160,7 @@ pub extern "C" fn trovespan_write_annotations(
     writers_crossing::write_annotations(records, out, value)
 }
 
-// `value` is the file's length.
+/// `value` is the file's length.
 #[unsafe(no_mangle)]
 pub extern "C" fn trovespan_write_container(
     page_size: u32,

@@ -1,2 +1,1 @@
-mod WriterLaws
 pub mod Statements

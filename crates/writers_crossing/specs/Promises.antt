@@ -1,6 +1,5 @@
 -- The promises of the writers' functions: the numbers that cross, and the lent store at exit.
-use Rattle.std.specs.Prelude.{◌≡◌, List, ℕ, length, ℤ}
-use Rattle.outcome.specs.Outcome.{Outcome}
+use Rattle.std.specs.Prelude.{◌≡◌, List, ℕ, length, ℤ, Result}
 use Rattle.outcome.specs.Refusal as paper
 use Rattle.outcome.specs.Store.{written}
 use Rattle.annotation_writer.specs.Writing.{list_bytes, writing}
@@ -10,7 +9,7 @@ use Rattle.container_writer.specs.Writing.{first_bytes}
 use Rattle.crossing.specs.Crossing.{Tells}
 
 -- (o is what writing answers, and these are the bytes that it writes)
-pub record WritesOf (bytes : ℕ → List ℕ) (o : Outcome paper.Refusal ℕ) (out : List ℕ) (r value : ℕ) (out' : List ℕ)
+pub record WritesOf (bytes : ℕ → List ℕ) (o : Result ℕ paper.Refusal) (out : List ℕ) (r value : ℕ) (out' : List ℕ)
     : Type 0 where
   pub answer : Tells o (λ n. n) r value
   pub after : out' ≡ written o bytes out

@@ -5,25 +5,19 @@
 ghost use Rattle.writers_crossing.specs.Promises.{Writes, Packs};
 ghost use Rattle.writers_crossing.specs.Statements.{SingleValued};
 
-use crossing::ACCEPTED;
+use crossing::tell;
 
-// `value` is the number of bytes written.
+/// `value` is the number of bytes written.
+#[tactic(auto, unfolding(crossing::specs::Crossing::told, outcome::specs::Outcome::raise))]
 pub fn write_annotations(records: &[i64], out: &mut [u8], value: &mut u64) -> u32
     ensures { Writes records.now out.old result value.new out.new }
 {
-    match annotation_writer::write_annotations(records, out) {
-        annotation_writer::Written::Length(n) => {
-            *value = n as u64;
-            ACCEPTED
-        }
-        annotation_writer::Written::Refused(why) => {
-            *value = why.value();
-            why.number()
-        }
-    }
+    let written = annotation_writer::write_annotations(records, out);
+    tell(written.map(|n| n as u64), value)
 }
 
-// `value` is the file's length.
+/// `value` is the file's length.
+#[tactic(auto, unfolding(crossing::specs::Crossing::told, outcome::specs::Outcome::raise))]
 pub fn write_container(
     page_size: u32,
     sizes: &[u32],
@@ -34,19 +28,12 @@ pub fn write_container(
     ensures { Packs page_size sizes.now bytes.now out.old
         result value.new out.new }
 {
-    match container_writer::write_container(page_size, sizes, bytes, out) {
-        container_writer::Written::Length(n) => {
-            *value = n as u64;
-            ACCEPTED
-        }
-        container_writer::Written::Refused(why) => {
-            *value = why.value();
-            why.number()
-        }
-    }
+    let packed = container_writer::write_container(page_size, sizes, bytes, out);
+    tell(packed.map(|n| n as u64), value)
 }
 
-// Promises the statement of this crate, so that it cannot be dropped unnoticed.
+/// Promises the statement of this crate, so that it cannot be dropped unnoticed.
+#[tactic(auto, using(crate::proofs::Statements::single_valued))]
 pub fn proved()
     ensures { SingleValued }
 {}

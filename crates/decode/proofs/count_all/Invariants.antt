@@ -5,8 +5,8 @@ use lib.ListN.{length}
 use Rattle.decode.proofs.DecodeLaws.{CountedSoFar}
 use Rattle.decode.proofs.count_all.Given as goal
 
-abbrev pub invariant-loop-why : goal.invariant-loop-why
-invariant-loop-why l = CountedSoFar l.bytes l.at l.n
+abbrev pub invariant-loop-a : goal.invariant-loop-a
+invariant-loop-a l = CountedSoFar l.bytes l.at l.n
 
-abbrev pub decreases-loop-why : goal.decreases-loop-why
-decreases-loop-why l = length l.bytes - l.at
+abbrev pub decreases-loop-a : goal.decreases-loop-a
+decreases-loop-a l = length l.bytes - l.at

@@ -1,18 +1,9 @@
--- One store for each entry, at consecutive places, is `sets` of the entries.
--- Assumes room for them.
-use native.Mathlib.Omega.{arith}
-use lib.ListN.{length-set}
-use Rattle.decode.proofs.DecodeLaws.{put_is}
+-- The entries are copied in at once, as a run is put (`PutLaws`).
+use mathlib.Core.Path.{◌∙◌}
+use Rattle.decode.specs.Decode.{entries_of}
+use Rattle.store.proofs.PutLaws.{putting}
 use Rattle.decode.proofs.put.Goals as goal
 
-pub bounds-store-at-2 : goal.bounds-store-at-2
-bounds-store-at-2 c = simp length-set (omega arith)
-
-pub bounds-store-at-3 : goal.bounds-store-at-3
-bounds-store-at-3 c = simp length-set (omega arith)
-
-pub bounds-store-at-4 : goal.bounds-store-at-4
-bounds-store-at-4 c = simp length-set (omega arith)
-
 pub returns : goal.returns
-returns c = search put_is
+returns c =
+    (putting (entries_of c.args.t c.args.shortest) c.args.store.now c.copy_from_slice.new.self c.args.at c.requires (c.copy_from_slice.ensures.after ∙ c.entries_of.ensures)).store

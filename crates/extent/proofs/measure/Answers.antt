@@ -1,14 +1,11 @@
--- What `find` refuses is refused; of a stream that it found, the directory holds all entries, as `first_bytes` asks.
+-- A stream that was found has its entries in the directory, and the bytes that are asked for are of its own.
 -- Assumes nothing.
 use borrow.Author.Rules.{rules}
-use Rattle.extent.proofs.ExtentLaws.{measure_cases, measure_held}
+use Rattle.extent.proofs.ExtentLaws.{measure_held, measure_fine}
 use Rattle.extent.proofs.measure.Goals as goal
 
-pub returns-in_default : goal.returns-in_default
-returns-in_default c = search measure_cases
-
 pub first_bytes-requires : goal.first_bytes-requires
-first_bytes-requires c = search (measure_held, rules)
+first_bytes-requires c = search (measure_held, c.in_ok-x.ensures, rules)
 
 pub returns : goal.returns
-returns c = search measure_cases
+returns c = search (measure_fine, c.in_ok-x.ensures)

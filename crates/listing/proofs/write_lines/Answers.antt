@@ -1,31 +1,29 @@
-use borrow.Author.Rules.{rules}
-use Rattle.store.proofs.PutLaws.{put_counts}
-use Rattle.listing.proofs.ListLaws.{write_cases, so_more, so_room, so_inside, same_out}
+use Rattle.std.proofs.Common.{◌≡◌, refl, ◌∙◌, ap, rules, arith}
+use Rattle.listing_whole.specs.declared.Listable.{Listable}
+use Rattle.listing.proofs.ListLaws.{so_none, so_more, write_stops, write_ends}
 use Rattle.listing.proofs.write_lines.Goals as goal
 
-pub loop-line-init : goal.loop-line-init
-loop-line-init c = (search rules, search rules, search write_cases, search rules)
-
-pub overflow_sub-out : goal.overflow_sub-out
-overflow_sub-out c = search so_inside
-
-pub shape_of-out-then-out-at : goal.shape_of-out-then-out-at
-shape_of-out-then-out-at c = search same_out
+pub loop-cursor-init : goal.loop-cursor-init
+loop-cursor-init c = record { same_file = refl; same_whole = refl; room = refl; so_far = so_none _ _ _ }
 
 pub returns-then-out-at : goal.returns-then-out-at
-returns-then-out-at c = search write_cases
+returns-then-out-at c =
+    let i = c.loop-cursor.invariant in
+    write_stops _ _ _ _ i.so_far (rw (i.same_file, i.same_whole) at c.write_line-n.ensures) (grind arith) c.if-out-at.true
+    (rw (c.count.ensures, c.line.ensures, i.same_whole) at c.place_of.ensures)
 
-pub slice_bounds-put-end-in-loop-line : goal.slice_bounds-put-end-in-loop-line
-slice_bounds-put-end-in-loop-line c = search put_counts
-
-pub put-at-requires : goal.put-at-requires
-put-at-requires c = search (so_room, rules)
-
-pub loop-line-preserved : goal.loop-line-preserved
-loop-line-preserved c = (search rules, search rules, so_more c.loop-line.invariant.2 c.write_line-n.ensures (search rules) c.put-at.ensures, search rules)
-
-pub shape_of-out : goal.shape_of-out
-shape_of-out c = search same_out
+pub loop-cursor-preserved : goal.loop-cursor-preserved
+loop-cursor-preserved c =
+    let i = c.loop-cursor.invariant in
+    record {
+      same_file = c.advance.ensures.same_file ∙ i.same_file;
+      same_whole = c.advance.ensures.same_whole ∙ i.same_whole;
+      room = search rules;
+      so_far = rw c.advance.ensures.next_line (so_more i.so_far (rw (i.same_file, i.same_whole) at c.write_line-n.ensures) c.if-out-at.false c.put-at.ensures);
+    }
 
 pub returns : goal.returns
-returns c = search write_cases
+returns c =
+    let i = c.loop-cursor.invariant in
+    let same : c.loop-cursor.cursor.whole.count ≡ c.args.cursor.whole.count = ap (λ (w : Listable). w.count) i.same_whole in
+    write_ends _ _ _ _ i.so_far (grind arith) (omega arith)

@@ -4,4 +4,4 @@ use Rattle.store.proofs.PutLaws.{puts_three}
 use Rattle.listing_text.proofs.write_head.Goals as goal
 
 pub returns : goal.returns
-returns c = search puts_three
+returns c = puts_three c.put-word.ensures (rw c.from.ensures at c.put_number-number.ensures.putting) c.put.ensures

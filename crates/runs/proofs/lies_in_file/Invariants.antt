@@ -4,7 +4,7 @@
 use mathlib.Core.Path.{◌≡◌}
 use Prim.Native.Nat.{◌-◌}
 use lib.ListN.{length}
-use Rattle.outcome.specs.Outcome.{ok}
+use Rattle.std.specs.Prelude.{Ok}
 use Rattle.parse_buffer.specs.Bytes.{byte_at}
 use Rattle.paged.specs.Checks.{lies_in_file}
 use Rattle.paged.specs.Pages.{page_of}
@@ -12,7 +12,7 @@ use Rattle.runs.specs.Inner.{Standing}
 use Rattle.runs.proofs.lies_in_file.Given as goal
 
 abbrev pub invariant-loop-s : goal.invariant-loop-s
-invariant-loop-s l = (l.len ≡ length l.file) × Standing (byte_at l.file) l.size l.pages l.n l.s × (lies_in_file l.len l.size (page_of (byte_at l.file) l.size l.pages) l.bytes l.s.next ≡ ok tt)
+invariant-loop-s l = (l.len ≡ length l.file) × Standing (byte_at l.file) l.size l.pages l.n l.s × (lies_in_file l.len l.size (page_of (byte_at l.file) l.size l.pages) l.bytes l.s.next ≡ Ok tt)
 
 abbrev pub decreases-loop-s : goal.decreases-loop-s
 decreases-loop-s l = l.n - l.s.next

@@ -6,5 +6,5 @@ use Rattle.slices.proofs.extend.Goals as goal
 pub returns-then-follows : goal.returns-then-follows
 returns-then-follows c = search longer
 
-pub returns : goal.returns
-returns c = search opened
+pub returns-else-follows : goal.returns-else-follows
+returns-else-follows c = rw c.from.ensures (search opened)

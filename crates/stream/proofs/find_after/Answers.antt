@@ -1,30 +1,31 @@
 -- The entries that the directory holds are checked before 7 is given, as `found` says. The first entry stands in the
 -- directory, so what is left does not wrap.
 -- Assumes that the stream is present, that the directory holds all sizes, and the count of pages before.
-use borrow.Author.Rules.{rules}
-use Rattle.stream.proofs.FindLaws.{after_cases, after_size, entries_fit, entries_lie}
+use native.Mathlib.Omega.{arith}
+use Rattle.std.specs.Prelude.{◌≡◌, Err}
+use Rattle.outcome.specs.Outcome.{raise}
+use Rattle.paged.specs.Refusal.{refusal_in, told}
+use Rattle.stream.proofs.FindLaws.{after_size, after_bad, after_short, after_fine}
 use Rattle.stream.proofs.find_after.Goals as goal
 
-pub returns-then-words-first : goal.returns-then-words-first
-returns-then-words-first c = search after_cases
-
 pub pages_needed_to_store-n-requires-clause-page_size : goal.pages_needed_to_store-n-requires-clause-page_size
-pages_needed_to_store-n-requires-clause-page_size c = search after_size
+pages_needed_to_store-n-requires-clause-page_size c = after_size c.requires
 
-pub check_pages-checked-requires-clause-page_size : goal.check_pages-checked-requires-clause-page_size
-check_pages-checked-requires-clause-page_size c = search after_size
+pub check_pages-requires-clause-page_size : goal.check_pages-requires-clause-page_size
+check_pages-requires-clause-page_size c = after_size c.requires
 
-pub check_pages-checked-requires-clause-n_bound : goal.check_pages-checked-requires-clause-n_bound
-check_pages-checked-requires-clause-n_bound c = search (entries_fit, rules)
-
-pub check_pages-checked-requires-clause-lying : goal.check_pages-checked-requires-clause-lying
-check_pages-checked-requires-clause-lying c = search entries_lie
-
-pub returns-in_default : goal.returns-in_default
-returns-in_default c = search after_cases
+pub returns-in_err-check_pages : goal.returns-in_err-check_pages
+unfolding raise
+returns-in_err-check_pages c =
+    let refused : told c.from_residual.result ≡ Err (refusal_in c.in_err-check_pages.field-0.0) = grind arith in
+    after_bad c.requires c.words-words.ensures (omega arith) c.pages_needed_to_store-n.ensures c.min.ensures c.in_err-check_pages.ensures refused
 
 pub returns-then-left-n : goal.returns-then-left-n
-returns-then-left-n c = search after_cases
+unfolding raise
+returns-then-left-n c =
+    after_short c.requires c.words-words.ensures (omega arith) c.pages_needed_to_store-n.ensures c.min.ensures c.in_ok-check_pages.ensures (omega arith)
 
 pub returns : goal.returns
-returns c = search after_cases
+unfolding raise
+returns c =
+    after_fine c.requires c.words-words.ensures (omega arith) c.pages_needed_to_store-n.ensures c.min.ensures c.in_ok-check_pages.ensures (omega arith)

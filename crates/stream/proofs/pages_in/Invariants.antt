@@ -1,12 +1,8 @@
--- The invariant: the pages of the first j sizes are summed, at most 2^24 each. The measure is what is left of them.
+-- The invariant: the pages of the first j sizes are summed, at most 2^24 each.
 -- Assumes a page size that passes, at most 2^32 sizes, and that they lie in the file.
-use Prim.Native.Nat.{◌≤◌, ◌-◌}
 use Rattle.parse_buffer.specs.Bytes.{byte_at}
 use Rattle.stream.specs.Inner.{Within}
 use Rattle.stream.proofs.pages_in.Given as goal
 
 abbrev pub invariant-loop-j : goal.invariant-loop-j
-invariant-loop-j l = (l.j ≤ l.n) × Within (byte_at l.file) l.size l.at l.j l.pages
-
-abbrev pub decreases-loop-j : goal.decreases-loop-j
-decreases-loop-j l = l.n - l.j
+invariant-loop-j l = Within (byte_at l.file) l.size l.at l.j l.pages

@@ -3,14 +3,11 @@
 use Rattle.annotation_records.proofs.OperandLaws.{numbers_cases}
 use Rattle.annotation_records.proofs.operands.numbers_of.Goals as goal
 
-pub magnitude-opcode-requires : goal.magnitude-opcode-requires
-magnitude-opcode-requires c = search numbers_cases
+pub first_operand-requires : goal.first_operand-requires
+first_operand-requires c = search numbers_cases
 
-pub first_operand-first-requires : goal.first_operand-first-requires
-first_operand-first-requires c = search numbers_cases
+pub returns-then-opcode-eq12 : goal.returns-then-opcode-eq12
+returns-then-opcode-eq12 c = search numbers_cases
 
-pub magnitude-second-requires : goal.magnitude-second-requires
-magnitude-second-requires c = search numbers_cases
-
-pub returns : goal.returns
-returns c = search numbers_cases
+pub returns-else-opcode-eq12 : goal.returns-else-opcode-eq12
+returns-else-opcode-eq12 c = search numbers_cases

@@ -1,12 +1,7 @@
--- The invariant: the pages of the first k streams. The measure is the number of sizes left.
--- Assumes a page size that passes, and that the streams' bytes are below 2^63.
-use Prim.Native.Nat.{◌-◌}
-use lib.ListN.{length}
-use Rattle.container_layout.proofs.PlanLaws.{PagedSoFar}
+-- The pages of so many streams.
+use Rattle.std.proofs.Common.{◌≡◌}
+use Rattle.container_layout.specs.Layout.{pages_up_to}
 use Rattle.container_layout.proofs.layout.stream_pages.Given as goal
 
-abbrev pub invariant-loop-k : goal.invariant-loop-k
-invariant-loop-k l = PagedSoFar l.size l.sizes l.pages l.k
-
-abbrev pub decreases-loop-k : goal.decreases-loop-k
-decreases-loop-k l = length l.sizes - l.k
+abbrev pub invariant-loop-size : goal.invariant-loop-size
+invariant-loop-size l = l.pages ≡ pages_up_to l.pagesize l.sizes l.size-index

@@ -1,23 +1,19 @@
 -- Each return is a line of `writing`.
--- Assumes nothing.
-use borrow.Author.Rules.{rules}
-use Rattle.container_writer.proofs.WriteLaws.{write_cases, plan_laid, plan_fits, plan_given}
+use Rattle.std.proofs.Common.{rules}
+use Rattle.container_writer.proofs.WriteLaws.{plan_laid, plan_bounds, plan_given, write_refused, write_no_room, write_fine}
 use Rattle.container_writer.proofs.write.write_container.Goals as goal
 
-pub returns-in_default : goal.returns-in_default
-returns-in_default c = search write_cases
-
-pub overflow_mul-needed : goal.overflow_mul-needed
-overflow_mul-needed c = search plan_fits
+pub returns-in_err-layout : goal.returns-in_err-layout
+returns-in_err-layout c = write_refused _ _ c.plan.ensures c.in_err-layout.was c.from_residual.ensures.1
 
 pub returns-then-out-needed : goal.returns-then-out-needed
-returns-then-out-needed c = search write_cases
+returns-then-out-needed c = write_no_room _ _ c.plan.ensures c.in_ok-layout.was c.if-out-needed.true
 
-pub write_file-requires-clause-laid : goal.write_file-requires-clause-laid
-write_file-requires-clause-laid c = search plan_laid
+pub invariant_of-planned : goal.invariant_of-planned
+invariant_of-planned c = record { laid = plan_laid c.plan.ensures c.in_ok-layout.was; bounds = plan_bounds c.plan.ensures c.in_ok-layout.was }
 
-pub write_file-requires-clause-given : goal.write_file-requires-clause-given
-write_file-requires-clause-given c = plan_given c.plan-planned.ensures (search rules) c.in-Layout.is
+pub invariant_of-write_file : goal.invariant_of-write_file
+invariant_of-write_file c = record { given = plan_given c.plan.ensures (search rules) c.in_ok-layout.was }
 
 pub returns : goal.returns
-returns c = search write_cases
+returns c = write_fine _ _ c.plan.ensures c.in_ok-layout.was c.if-out-needed.false c.write_file.ensures

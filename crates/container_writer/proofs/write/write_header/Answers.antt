@@ -1,7 +1,0 @@
--- The magic, and the header's numbers up to the page's end, since a page has whole numbers.
--- Assumes the layout of these sizes, and room for a page.
-use Rattle.container_writer.proofs.FileLaws.{header_written}
-use Rattle.container_writer.proofs.write.write_header.Goals as goal
-
-pub returns : goal.returns
-returns c = search header_written

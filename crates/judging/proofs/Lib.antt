@@ -1,4 +1,0 @@
-pub mod SkipLaws
-pub mod JudgedLaws
-pub mod FoundLaws
-pub mod StopLaws

@@ -1,5 +1,0 @@
--- Ends: the measure is the number of turns that are left.
-use Rattle.list.proofs.print_listing.Given as goal
-
-abbrev pub decreases-loop-turns : goal.decreases-loop-turns
-decreases-loop-turns l = l.turns

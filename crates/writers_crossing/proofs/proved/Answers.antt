@@ -1,7 +1,0 @@
--- The statement by its proof.
--- Assumes nothing.
-use Rattle.writers_crossing.proofs.Statements.{single_valued}
-use Rattle.writers_crossing.proofs.proved.Goals as goal
-
-pub returns : goal.returns
-returns c = single_valued
