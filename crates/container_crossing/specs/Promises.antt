@@ -51,6 +51,7 @@ abbrev pub Needs : File → ℕ → Stage → List ℕ → List ℕ → ℕ → 
 Needs f len stage offsets sizes =
     NeedsOf f stage (needing f len stage (min (length offsets) (length sizes))) offsets sizes
 
-pub record Extracts (f : File) (len k : ℕ) (limit : Option ℕ) (out : List ℕ) (r value : ℕ) (out' : List ℕ) : Type 0 where
+pub record Extracts (f : File) (len k : ℕ) (limit : Option ℕ) (out : List ℕ) (r value : ℕ)
+    (out' : List ℕ) : Type 0 where
   pub answer : Tells (length_in (extraction f len k limit (length out))) (λ n. n) r value
   pub after : out' ≡ written (extraction f len k limit (length out)) (bytes_in f) out

@@ -106,13 +106,15 @@ pub record SameEntriesAs (m : Mapped) (offsets sizes : List ℕ) (store : List S
   pub offset : (i : ℕ) → i < m.slices → (get_or store i none).offset ≡ get_or offsets i 0
   pub size : (i : ℕ) → i < m.slices → (get_or store i none).size ≡ get_or sizes i 0
 
-pub record AnsweredAlike (r r' : Result Mapped Refusal) (offsets sizes : List ℕ) (store : List SourceSlice) : Type 0 where
+pub record AnsweredAlike (r r' : Result Mapped Refusal) (offsets sizes : List ℕ)
+    (store : List SourceSlice) : Type 0 where
   pub answer : r ≡ r'
   pub entries : (m : Mapped) → r ≡ Ok m → SameEntriesAs m offsets sizes store
 
 pub record BothForms : Type 0 where
   pub alike : (f : File) (len k : ℕ) (limit : Option ℕ) (offsets sizes : List ℕ) (store : List SourceSlice) →
-      length store ≡ min (length offsets) (length sizes) → (r r' : Result Mapped Refusal) (o t : List ℕ) (s : List SourceSlice) →
+      length store ≡ min (length offsets) (length sizes) →
+      (r r' : Result Mapped Refusal) (o t : List ℕ) (s : List SourceSlice) →
       Maps f len k limit offsets sizes r o t → MapsInto f len k limit store r' s → AnsweredAlike r r' o t s
 
 -- need(b) is the least number of pages that hold b bytes; no word crosses a page

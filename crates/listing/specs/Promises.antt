@@ -12,7 +12,8 @@ use Rattle.listing.specs.declared.place.Place.{Place}
 use Rattle.listing.specs.declared.Part.{Part}
 
 -- ---- `list`: as many whole lines as fit, from a place on
-pub record Lists (f : File) (len : ℕ) (place : Place) (out : List ℕ) (r : Result Part ListRefusal) (out' : List ℕ) : Type 0 where
+pub record Lists (f : File) (len : ℕ) (place : Place) (out : List ℕ) (r : Result Part ListRefusal)
+    (out' : List ℕ) : Type 0 where
   pub answer : told r ≡ part_of f len (fitting f len place (length out))
   pub after : out' ≡ written (fitting f len place (length out)) (text_of f len) out
 
