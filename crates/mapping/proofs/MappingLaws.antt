@@ -1,5 +1,5 @@
 -- The ways out of judging a mapping; what an accepted mapping is known to be.
-use mathlib.Core.Path.{◌≡◌, refl, sym, ◌∙◌, ap}
+use mathlib.Core.Path.{◌≡◌, refl, ◌∙◌, ap}
 use mathlib.Core.Bool.{Bool, true, false}
 use mathlib.Core.List.{List, map}
 use Prim.Native.Nat.{ℕ, min, ◌≤◌, ◌<◌}
@@ -7,7 +7,6 @@ use native.Mathlib.Omega.{arith}
 use borrow.Author.Tests.{le-leb, lt-leb, leb-true}
 use lib.Dec.{leb}
 use lib.ListN.{length}
-use lib.Seq.{sets}
 use Rattle.std.specs.Prelude.{Option, Result, Ok, Err}
 use Rattle.outcome.specs.Outcome.{and_next, and_then, ◌>>=◌, ◌>>◌, require, raise}
 use Rattle.outcome.specs.Refusal as paper
@@ -23,16 +22,16 @@ use Rattle.directory.proofs.DirectoryLaws.{reached_at}
 use Rattle.stream.specs.Stream.{own_page, own_pages}
 use Rattle.stream.proofs.FindLaws.{found_at}
 use Rattle.extent.specs.Extent.{Asked, asked, extent_of, page_in}
-use Rattle.extent.specs.Inner.{Extends, EntriesLie, extents, Measuring}
+use Rattle.extent.specs.Inner.{Extends, EntriesLie, Sound, extents, Measuring}
 use Rattle.paged.specs.Refusal.{told}
-use Rattle.extent.proofs.ExtentLaws.{length_most, IsOf, is_of, is_refused, measured_is, asked_at}
+use Rattle.extent.proofs.ExtentLaws.{length_most, IsOf, is_of, is_refused, asked_at}
 use Rattle.extent.specs.declared.Extent.{Extent}
 use Rattle.slices.specs.Slices.{slices_of}
 use Rattle.slices.specs.Inner.{slices_through, Writing}
 use Rattle.slices.specs.declared.SourceSlice.{SourceSlice}
 use Rattle.slices.proofs.SliceLaws.{cut_past_pages, slices_few, cut_few}
 use Rattle.mapping.specs.Mapping.{slices_in, mapping, mapped}
-use Rattle.mapping.specs.Inner.{Writable, fitted, Fitting, Judging, mapped_of, Puts}
+use Rattle.mapping.specs.Inner.{Writable, fitted, Fitting, Judging, mapped_of, each_slice, Puts}
 
 -- ---- the slices of what was asked for are those of its extent: pages past the length change nothing
 module _ (f : File) (len k : ℕ) (limit : Option ℕ) {x : Asked} (e : asked f len k limit ≡ Ok x) where
@@ -54,70 +53,71 @@ module _ (f : File) (len k : ℕ) (limit : Option ℕ) {x : Asked} (e : asked f 
       (need_covers p x.length (omega arith)) asked_few
 
 -- ---- `fit`
-module _ {f : File} {len : ℕ} {x : Extent} (extends : Extends x) (lie : EntriesLie f len x) (room : ℕ) where
-  pub fit_no_room : {c : ℕ} → c ≡ length (slices_through f x) → room < c → Fitting f len room x (Err (NoRoom c))
-  unfolding fitted raise require and_next
-  fit_no_room {c} count_is h = record { answer = rw (← count_is, lt-leb c room h); writable = tt }
+module _ {f : File} {len : ℕ} {m : Result Extent Refusal} (room : ℕ) where
+  pub fit_refused : {why : Refusal} → m ≡ Err why → Fitting f len room m (Err why)
+  unfolding fitted raise and_then
+  fit_refused e = record { answer = rw e; writable = tt }
 
-  fit_fine : length (slices_through f x) ≤ room → Fitting f len room x (Ok x)
-  unfolding fitted raise require and_next
-  fit_fine h =
-      record { answer = rw (le-leb _ room h); writable = record { extends = extends; lie = lie; fit = h } }
+  module _ (p : Sound f len m) {x : Extent} (e : m ≡ Ok x) where
+    pub fit_extends : Extends x
+    fit_extends = rw e at p.extends
 
-  pub fit_counted : {c : ℕ} → c ≡ length (slices_through f x) → c ≤ room → Fitting f len room x (Ok x)
-  fit_counted count_is h = fit_fine (omega (arith, count_is))
+    pub fit_lie : EntriesLie f len x
+    fit_lie = rw e at p.lie
 
-  -- there are no more slices than pages
-  pub fit_few : x.pages ≤ room → Fitting f len room x (Ok x)
-  fit_few h =
-      fit_fine
-      (omega (arith, cut_few x.bytes (slices_of x.pagesize (page_in f x) x.pages), slices_few x.pagesize (page_in f x) x.pages))
+    pub fit_no_room : {c : ℕ} → c ≡ length (slices_through f x) → room < c → Fitting f len room m (Err (NoRoom c))
+    unfolding fitted raise require and_then and_next
+    fit_no_room {c} count_is h = record { answer = rw (e, ← count_is, lt-leb c room h); writable = tt }
 
-pub ruleset fit_cases = (fit_no_room, fit_counted)
+    fit_fine : length (slices_through f x) ≤ room → Fitting f len room m (Ok x)
+    unfolding fitted raise require and_then and_next
+    fit_fine h =
+        record {
+          answer = rw (e, le-leb _ room h);
+          writable = record { extends = fit_extends; lie = fit_lie; fit = h };
+        }
 
--- ---- an outcome of any kind, whose extent is judged and written: room, answer and stores are by its own slices
+    pub fit_counted : {c : ℕ} → c ≡ length (slices_through f x) → c ≤ room → Fitting f len room m (Ok x)
+    fit_counted count_is h = fit_fine (omega (arith, count_is))
+
+    -- there are no more slices than pages
+    pub fit_few : x.pages ≤ room → Fitting f len room m (Ok x)
+    fit_few h =
+        fit_fine
+        (omega (arith, cut_few x.bytes (slices_of x.pagesize (page_in f x) x.pages), slices_few x.pagesize (page_in f x) x.pages))
+
+-- ---- an outcome of another kind, whose extents are judged and written: room, answer and stores are by its own slices
+abbrev Alike : {A : Type 0} → File → (A → Extent) → (A → List SourceSlice) → Result A paper.Refusal → Type 0
+Alike {A} f extent slices o = (a : A) → o ≡ Ok a → slices a ≡ slices_through f (extent a)
+
 require_extent : {A : Type 0} (extent : A → Extent) (a : A) (b : Bool) (why : paper.Refusal) → require b why >> Ok (extent a) ≡ (require b why >> Ok a >>= λ x. Ok (extent x))
 unfolding require and_then and_next
 require_extent extent a true why = refl
 require_extent extent a false why = refl
 
-module _ {A : Type 0} (f : File) (extent : A → Extent) (slices : A → List SourceSlice) where
-  -- the same answer, if it has room
-  abbrev pub roomy : ℕ → A → Result A paper.Refusal
-  roomy room a = require (leb (length (slices a)) room) (refusal_in (NoRoom (length (slices a)))) >> Ok a
+pub fitted_alike : {A : Type 0} (f : File) (extent : A → Extent) (slices : A → List SourceSlice) (o : Result A paper.Refusal) (room : ℕ) → Alike f extent slices o → fitted f (o >>= λ a. Ok (extent a)) room ≡ ((o >>= λ a. require (leb (length (slices a)) room) (refusal_in (NoRoom (length (slices a)))) >> Ok a) >>= λ a. Ok (extent a))
+unfolding fitted and_then
+fitted_alike f extent slices (Ok a) room same = rw (same a refl) (require_extent extent a _ _)
+fitted_alike f extent slices (Err why) room same = refl
 
-  pub fitted_by : (o : Result A paper.Refusal) (room : ℕ) {x : Extent} → (of : IsOf extent o x) → slices of.asked ≡ slices_through f x → fitted f x room ≡ (o >>= roomy room >>= λ a. Ok (extent a))
-  unfolding fitted and_then
-  fitted_by o room of same =
-      ap (λ (y : Extent). fitted f y room) (sym of.by)
-      ∙ rw (of.is, same, ← of.by) (require_extent extent of.asked _ _)
+pub mapped_alike : {A : Type 0} (f : File) (extent : A → Extent) (slices : A → List SourceSlice) (o : Result A paper.Refusal) → Alike f extent slices o → mapped_of f (o >>= λ a. Ok (extent a)) ≡ (o >>= λ a. Ok (record { slices = length (slices a); length = (extent a).bytes }))
+unfolding mapped_of and_then
+mapped_alike f extent slices (Ok a) same = rw (same a refl)
+mapped_alike f extent slices (Err why) same = refl
 
-  pub mapped_by : (o : Result A paper.Refusal) {x : Extent} → (of : IsOf extent o x) → slices of.asked ≡ slices_through f x → Ok (mapped_of f x) ≡ (o >>= λ a. Ok (record { slices = length (slices a); length = (extent a).bytes }))
-  unfolding and_then
-  mapped_by o of same = rw (of.is, same, of.by)
+pub written_alike : {A : Type 0} (f : File) (extent : A → Extent) (slices : A → List SourceSlice) (o : Result A paper.Refusal) (part : SourceSlice → ℕ) (store : List ℕ) → Alike f extent slices o → written (o >>= λ a. Ok (extent a)) (each_slice part f) store ≡ written o (λ a. map part (slices a)) store
+unfolding written and_then
+written_alike f extent slices (Ok a) part store same = rw (same a refl)
+written_alike f extent slices (Err why) part store same = refl
 
-  pub written_by : {B : Type 0} (part : SourceSlice → B) (store : List B) (o : Result A paper.Refusal) {x : Extent} → (of : IsOf extent o x) → slices of.asked ≡ slices_through f x → sets store 0 (map part (slices_through f x)) ≡ written o (λ a. map part (slices a)) store
-  unfolding written
-  written_by part store o of same = rw (of.is, same)
-
--- ---- `judge`, by what `measure` answered
-module _ {f : File} {len k room : ℕ} {limit : Option ℕ} where
-  pub judge_refused : {why : Refusal} → Measuring f len k limit (Err why) → Judging f len k limit room (Err why)
-  unfolding mapping extents raise and_then
-  judge_refused {why} p =
-      record { answer = rw (← is_refused extent_of (asked f len k limit) why p.answer); writable = tt }
-
-  pub judge_fine : {x : Extent} {r : Result Extent Refusal} → Measuring f len k limit (Ok x) → Fitting f len room x r → Judging f len k limit room r
-  unfolding mapping extents
-  judge_fine p q =
-      let of = measured_is p in
-      let same : slices_in f of.asked ≡ slices_through f _ = slices_asked f len k limit of.is ∙ ap (slices_through f) of.by in
-      record {
-        answer = q.answer ∙ fitted_by f extent_of (slices_in f) (asked f len k limit) room of same;
-        writable = q.writable;
-      }
-
-pub ruleset judge_cases = (judge_refused, judge_fine)
+-- ---- `judge`
+pub judge_fine : {f : File} {len k : ℕ} {limit : Option ℕ} {m r : Result Extent Refusal} {room : ℕ} → Measuring f len k limit m → Fitting f len room m r → Judging f len k limit room r
+unfolding mapping extents
+judge_fine {f} {len} {k} {limit} {m} {r} {room} p q =
+    record {
+      answer = q.answer ∙ ap (λ (o : Result Extent paper.Refusal). fitted f o room) p.answer ∙ fitted_alike f extent_of (slices_in f) (asked f len k limit) room (λ x e. slices_asked f len k limit e);
+      writable = q.writable;
+    }
 
 -- ---- an accepted mapping: what was asked for, and that its slices fit
 pub record MappingAt (f : File) (len k : ℕ) (limit : Option ℕ) (room : ℕ) (x : Asked) : Type 0 where
@@ -131,6 +131,10 @@ mapping_at f len k limit room e =
     came _ _ e₁ λ _ fits e₂.
     record { asked = a ∙ e₂; fits = rw (← ok_is e₂) (leb-true _ _ (passed _ _ fits)) }
 
+-- of a mapping
+pub slices_mapped : (f : File) (len k room : ℕ) (limit : Option ℕ) → Alike f extent_of (slices_in f) (mapping f len k limit room)
+slices_mapped f len k room limit x e = slices_asked f len k limit (mapping_at f len k limit room e).asked
+
 -- ---- once it is judged: the mapping itself, and its slices
 module _ {f : File} {len k room : ℕ} {limit : Option ℕ} where
   pub judged_refused : {why : Refusal} → Judging f len k limit room (Err why) → told {A = Asked} (Err why) ≡ mapping f len k limit room
@@ -143,19 +147,26 @@ module _ {f : File} {len k room : ℕ} {limit : Option ℕ} where
     judged_is = is_of extent_of (mapping f len k limit room) x p.answer
 
     pub judged_slices : slices_in f judged_is.asked ≡ slices_through f x
-    judged_slices =
-        slices_asked f len k limit (mapping_at f len k limit room judged_is.is).asked ∙ ap (slices_through f) judged_is.by
+    judged_slices = slices_mapped f len k room limit judged_is.asked judged_is.is ∙ ap (slices_through f) judged_is.by
 
-    -- what it answers, and what it writes of each slice
-    pub judged_mapped : told (Ok (mapped_of f x)) ≡ mapped f (mapping f len k limit room)
-    unfolding mapped raise
-    judged_mapped = mapped_by f extent_of (slices_in f) (mapping f len k limit room) judged_is judged_slices
-
-    pub judged_written : {B : Type 0} (part : SourceSlice → B) (store : List B) → sets store 0 (map part (slices_through f x)) ≡ written (mapping f len k limit room) (λ a. map part (slices_in f a)) store
-    judged_written part store =
-        written_by f extent_of (slices_in f) part store (mapping f len k limit room) judged_is judged_slices
+    -- what it answers
+    pub judged_mapped : {c : ℕ} → c ≡ length (slices_through f x) → told (Ok (record { slices = c; length = x.bytes })) ≡ mapped f (mapping f len k limit room)
+    unfolding mapped raise and_then
+    judged_mapped count =
+        let bytes : judged_is.asked.length ≡ x.bytes = ap (λ (y : Extent). y.bytes) judged_is.by in
+        rw (judged_is.is, judged_slices, count, bytes)
 
 -- ---- `write_judged`
+module _ {f : File} {j : Result Extent Refusal} (o t : List ℕ) where
+  pub write_refused : {why : Refusal} → j ≡ Err why → Puts f j o t (Err why) o t
+  unfolding mapped_of raise and_then written
+  write_refused e = record { answer = rw e; offsets_after = rw e; sizes_after = rw e }
+
+  pub write_fine : {x : Extent} → j ≡ Ok x → {c : ℕ} {o' t' : List ℕ} → Writing (slices_through f x) c o t o' t' → Puts f j o t (Ok (record { slices = c; length = x.bytes })) o' t'
+  unfolding mapped_of raise and_then written
+  write_fine e w =
+      record { answer = rw (w.count, e); offsets_after = w.offsets_are ∙ rw e; sizes_after = w.sizes_are ∙ rw e }
+
 module _ {f : File} {len : ℕ} (o t : List ℕ) {x : Extent} (p : Writable f len (min (length o) (length t)) x) where
   pub write_offsets : length (slices_through f x) ≤ length o
   write_offsets = omega (arith, p.fit)
@@ -163,7 +174,4 @@ module _ {f : File} {len : ℕ} (o t : List ℕ) {x : Extent} (p : Writable f le
   pub write_sizes : length (slices_through f x) ≤ length t
   write_sizes = omega (arith, p.fit)
 
-pub write_fine : {f : File} {x : Extent} {o t : List ℕ} {c : ℕ} {o' t' : List ℕ} → Writing (slices_through f x) c o t o' t' → Puts f x o t (record { slices = c; length = x.bytes }) o' t'
-write_fine w = record { answer = rw w.count; offsets_after = w.offsets_are; sizes_after = w.sizes_are }
-
-pub ruleset write_cases = (write_offsets, write_sizes, write_fine)
+pub ruleset write_cases = (write_offsets, write_sizes)

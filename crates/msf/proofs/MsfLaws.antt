@@ -5,7 +5,7 @@ use Prim.Native.Nat.{ℕ, min, ◌≤◌, ◌<◌}
 use borrow.Author.Tests.{le-leb, lt-leb}
 use lib.ListN.{length}
 use lib.Seq.{sets}
-use Rattle.std.specs.Prelude.{Option, Ok, Err}
+use Rattle.std.specs.Prelude.{Option, Result, Ok, Err, IfOk}
 use Rattle.outcome.specs.Outcome.{and_next, and_then, require, raise}
 use Rattle.outcome.specs.Store.{written}
 use Rattle.parse_buffer.specs.Bytes.{File}
@@ -17,36 +17,30 @@ use Rattle.extent.specs.Inner.{extents, Reading}
 use Rattle.extent.proofs.ExtentLaws.{IsOf, is_of, is_refused, readable_at}
 use Rattle.extent.specs.declared.Extent.{Extent}
 use Rattle.slices.specs.declared.SourceSlice.{SourceSlice}
-use Rattle.mapping.specs.Mapping.{mapped}
-use Rattle.mapping.specs.Inner.{Writable, Judging, Puts}
+use Rattle.mapping.specs.Mapping.{slices_in, mapping, mapped}
+use Rattle.mapping.specs.Inner.{Writable, Judging, mapped_of, Puts}
 use Rattle.mapping.specs.declared.Mapped.{Mapped}
-use Rattle.mapping.proofs.MappingLaws.{judged_refused, judged_mapped, judged_written}
+use Rattle.mapping.proofs.MappingLaws.{mapped_alike, written_alike, slices_mapped}
 use Rattle.msf.specs.Extraction.{extraction, length_in}
 use Rattle.msf.specs.Inner.{bytes_of, LiesIn}
 use Rattle.msf.specs.Promises.{Maps, Extracts}
 
 -- ---- `map`
-module _ {f : File} {len k room : ℕ} {limit : Option ℕ} (o t : List ℕ) (room_is : room ≡ min (length o) (length t)) where
-  pub map_refused : {why : Refusal} → Judging f len k limit room (Err why) → Maps f len k limit o t (Err why) o t
-  unfolding mapped raise and_then written
-  map_refused p =
-      let e = judged_refused p in
-      record { answer = rw (← room_is, ← e); offsets_after = rw (← room_is, ← e); sizes_after = rw (← room_is, ← e) }
+pub map_judged : {f : File} {len k room : ℕ} {limit : Option ℕ} {j : Result Extent Refusal} (o t : List ℕ) → room ≡ min (length o) (length t) → Judging f len k limit room j → IfOk j (Writable f len (min (length o) (length t)))
+map_judged o t room_is p = rw (← room_is) p.writable
 
-  module _ {x : Extent} (p : Judging f len k limit room (Ok x)) where
-    pub map_room : Writable f len (min (length o) (length t)) x
-    map_room = rw (← room_is) p.writable
-
-    pub map_fine : {m : Mapped} {o' t' : List ℕ} → Puts f x o t m o' t' → Maps f len k limit o t (Ok m) o' t'
-    unfolding raise
-    map_fine w =
-        record {
-          answer = rw (← room_is, w.answer) (judged_mapped p);
-          offsets_after = rw (← room_is) (w.offsets_after ∙ judged_written p (λ (s : SourceSlice). s.offset) o);
-          sizes_after = rw (← room_is) (w.sizes_after ∙ judged_written p (λ (s : SourceSlice). s.size) t);
-        }
-
-pub ruleset map_cases = (map_refused, map_fine)
+pub map_fine : {f : File} {len k room : ℕ} {limit : Option ℕ} {j : Result Extent Refusal} {r : Result Mapped Refusal} {o t o' t' : List ℕ} → room ≡ min (length o) (length t) → Judging f len k limit room j → Puts f j o t r o' t' → Maps f len k limit o t r o' t'
+unfolding mapped extents
+map_fine {f} {len} {k} {room} {limit} {j} {o = o} {t} room_is p w =
+    let by = mapping f len k limit room in
+    let same = slices_mapped f len k room limit in
+    record {
+      answer = rw (← room_is) (w.answer ∙ ap (mapped_of f) p.answer ∙ mapped_alike f extent_of (slices_in f) by same);
+      offsets_after = rw (← room_is)
+          (w.offsets_after ∙ rw p.answer (written_alike f extent_of (slices_in f) by (λ (s : SourceSlice). s.offset) o same));
+      sizes_after = rw (← room_is)
+          (w.sizes_after ∙ rw p.answer (written_alike f extent_of (slices_in f) by (λ (s : SourceSlice). s.size) t same));
+    }
 
 -- ---- `extract`
 module _ {f : File} {len k : ℕ} {limit : Option ℕ} (o : List ℕ) where

@@ -7,7 +7,6 @@ use mapping::{Mapped, judge, write_judged};
 use paged::{Refusal, StreamNumber};
 
 /// Steps 1 to 8, then 10.
-#[tactic(auto, using(crate::proofs::MsfLaws::map_room))]
 pub fn map(
     file: &[u8],
     stream: StreamNumber,
@@ -19,6 +18,6 @@ pub fn map(
         offsets.old sizes.old result offsets.new sizes.new }
 {
     let room = offsets.len().min(sizes.len());
-    let x = judge(file, stream, limit, room)?;
-    Ok(write_judged(file, x, offsets, sizes))
+    let judged = judge(file, stream, limit, room);
+    write_judged(file, judged, offsets, sizes)
 }

@@ -1,13 +1,12 @@
 -- The ways out of the two stages, and what was judged and written of their parts.
-use mathlib.Core.Path.{◌≡◌, sym, ◌∙◌, ap}
-use mathlib.Core.List.{List, map}
+use mathlib.Core.Path.{◌≡◌, refl, sym, ◌∙◌, ap}
+use mathlib.Core.List.{List}
 use Prim.Native.Nat.{ℕ, ◌*◌, ◌^◌, min, ◌≤◌, ◌<◌}
 use native.Mathlib.Omega.{arith}
 use lib.ListN.{length}
-use lib.Seq.{sets}
-use Rattle.std.specs.Prelude.{Result, Ok, Err}
+use Rattle.std.specs.Prelude.{Result, Ok, Err, IfOk}
 use Rattle.outcome.specs.Outcome.{and_then, ◌>>=◌, raise}
-use Rattle.outcome.specs.Store.{written}
+use Rattle.outcome.specs.Refusal as paper
 use Rattle.parse_buffer.specs.Bytes.{File}
 use Rattle.paged.specs.PageSize.{need}
 use Rattle.paged.specs.Refusal.{told}
@@ -22,13 +21,11 @@ use Rattle.header.specs.declared.Header.{Header}
 use Rattle.directory.specs.Directory.{listed}
 use Rattle.directory.specs.Inner.{Listing}
 use Rattle.directory.proofs.DirectoryLaws.{listed_at}
-use Rattle.extent.proofs.ExtentLaws.{IsOf, is_of, is_refused}
 use Rattle.extent.specs.declared.Extent.{Extent}
-use Rattle.slices.specs.Inner.{slices_through}
 use Rattle.slices.specs.declared.SourceSlice.{SourceSlice}
-use Rattle.mapping.specs.Inner.{Writable, Fitting, Puts}
+use Rattle.mapping.specs.Inner.{Writable, fitted, Fitting, mapped_of, Puts}
 use Rattle.mapping.specs.declared.Mapped.{Mapped}
-use Rattle.mapping.proofs.MappingLaws.{fitted_by, mapped_by, written_by}
+use Rattle.mapping.proofs.MappingLaws.{fitted_alike, mapped_alike, written_alike}
 use Rattle.needed.specs.Needed.{placed, slices_at, needing, needed}
 use Rattle.needed.specs.Inner.{extent_at, Parting}
 use Rattle.needed.specs.Promises.{Needs}
@@ -85,53 +82,29 @@ module _ {f : File} {len : ℕ} where
         }
 
 -- ---- what was judged and written of a part
-module _ {f : File} {len : ℕ} {stage : Stage} where
-  pub part_none : {why : Refusal} (room : ℕ) → Parting f len stage (Err why) → told {A = Header} (Err why) ≡ needing f len stage room
-  unfolding needing raise and_then
-  part_none {why} room p = rw (← is_refused (extent_at stage) (placed f len stage) why p.answer)
+module _ {f : File} {len room : ℕ} {stage : Stage} {m j : Result Extent Refusal} (p : Parting f len stage m) (q : Fitting f len room m j) where
+  judged_part : told j ≡ (needing f len stage room >>= λ h. Ok (extent_at stage h))
+  unfolding needing
+  judged_part =
+      q.answer
+      ∙ ap (λ (o : Result Extent paper.Refusal). fitted f o room) p.answer
+      ∙ fitted_alike f (extent_at stage) (slices_at f stage) (placed f len stage) room (λ _ _. refl)
 
-  module _ {x : Extent} (p : Parting f len stage (Ok x)) where
-    part_is : IsOf (extent_at stage) (placed f len stage) x
-    part_is = is_of (extent_at stage) (placed f len stage) x p.answer
+  module _ (o t : List ℕ) (room_is : room ≡ min (length o) (length t)) where
+    pub needed_judged : IfOk j (Writable f len (min (length o) (length t)))
+    needed_judged = rw (← room_is) q.writable
 
-    pub judged_part : {room : ℕ} {r : Result Extent Refusal} → Fitting f len room x r → told r ≡ (needing f len stage room >>= λ h. Ok (extent_at stage h))
-    unfolding needing
-    judged_part {room} q =
-        q.answer ∙ fitted_by f (extent_at stage) (slices_at f stage) (placed f len stage) room part_is (ap (slices_through f) part_is.by)
-
-module _ {f : File} {len room : ℕ} {stage : Stage} (o t : List ℕ) (room_is : room ≡ min (length o) (length t)) where
-  needs_none : (why : Refusal) → told {A = Header} (Err why) ≡ needing f len stage room → Needs f len stage o t (Err why) o t
-  unfolding needed raise and_then written
-  needs_none why e = record { answer = rw (← room_is, ← e); offsets_after = rw (← room_is, ← e); sizes_after = rw (← room_is, ← e) }
-
-  pub needs_no_part : {why : Refusal} → Parting f len stage (Err why) → Needs f len stage o t (Err why) o t
-  needs_no_part {why} p = needs_none why (part_none room p)
-
-  module _ {x : Extent} (p : Parting f len stage (Ok x)) where
-    pub needs_no_room : {why : Refusal} → Fitting f len room x (Err why) → Needs f len stage o t (Err why) o t
-    needs_no_room {why} q =
-        needs_none why (is_refused (extent_at stage) (needing f len stage room) why (judged_part p q))
-
-    module _ {y : Extent} (q : Fitting f len room x (Ok y)) where
-      pub needs_room : Writable f len (min (length o) (length t)) y
-      needs_room = rw (← room_is) q.writable
-
-      needed_is : IsOf (extent_at stage) (needing f len stage room) y
-      needed_is = is_of (extent_at stage) (needing f len stage room) y (judged_part p q)
-
-      same : slices_at f stage needed_is.asked ≡ slices_through f y
-      same = ap (slices_through f) needed_is.by
-
-      after : (part : SourceSlice → ℕ) (store : List ℕ) → sets store 0 (map part (slices_through f y)) ≡ written (needing f len stage room) (λ h. map part (slices_at f stage h)) store
-      after part store =
-          written_by f (extent_at stage) (slices_at f stage) part store (needing f len stage room) needed_is same
-
-      pub needs_fine : {m : Mapped} {o' t' : List ℕ} → Puts f y o t m o' t' → Needs f len stage o t (Ok m) o' t'
-      unfolding needed raise
-      needs_fine w =
-          record {
-            answer = rw (← room_is, w.answer)
-                (mapped_by f (extent_at stage) (slices_at f stage) (needing f len stage room) needed_is same);
-            offsets_after = rw (← room_is) (w.offsets_after ∙ after (λ (s : SourceSlice). s.offset) o);
-            sizes_after = rw (← room_is) (w.sizes_after ∙ after (λ (s : SourceSlice). s.size) t);
-          }
+    pub needed_fine : {r : Result Mapped Refusal} {o' t' : List ℕ} → Puts f j o t r o' t' → Needs f len stage o t r o' t'
+    unfolding needed
+    needed_fine w =
+        let by = needing f len stage room in
+        record {
+          answer = rw (← room_is)
+              (w.answer ∙ ap (mapped_of f) judged_part ∙ mapped_alike f (extent_at stage) (slices_at f stage) by (λ _ _. refl));
+          offsets_after = rw (← room_is)
+              (w.offsets_after ∙ rw judged_part
+              (written_alike f (extent_at stage) (slices_at f stage) by (λ (s : SourceSlice). s.offset) o (λ _ _. refl)));
+          sizes_after = rw (← room_is)
+              (w.sizes_after ∙ rw judged_part
+              (written_alike f (extent_at stage) (slices_at f stage) by (λ (s : SourceSlice). s.size) t (λ _ _. refl)));
+        }

@@ -34,9 +34,8 @@ pub fn needed_to_map(
         offsets.old sizes.old result offsets.new sizes.new }
 {
     let room = offsets.len().min(sizes.len());
-    let part = part_of(file, stage)?;
-    let x = fit(file, part, room)?;
-    Ok(write_judged(file, x, offsets, sizes))
+    let judged = fit(file, part_of(file, stage), room);
+    write_judged(file, judged, offsets, sizes)
 }
 
 // A stage's part.

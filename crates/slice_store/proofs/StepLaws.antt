@@ -50,6 +50,6 @@ unfolding raise written
 maps_into {f} {i = i} {x = x} ys p at within past =
     let extends = p.writable.extends in
     record {
-      answer = rw (walk_all at extends within past) (judged_mapped p);
+      answer = judged_mapped p (walk_all at extends within past);
       after = rw (le_antisymm within past, ← all_pieces f x extends, (judged_is p).is, judged_slices p);
     }
