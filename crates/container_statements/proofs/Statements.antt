@@ -18,7 +18,7 @@ use Rattle.outcome.proofs.OutcomeLaws.{came, came_by, ok_is, ok_refused, passed}
 use Rattle.outcome.proofs.OnlyLaws.{only, only₂, only₃}
 use Rattle.parse_buffer.specs.Bytes.{File}
 use Rattle.parse_buffer.specs.Parse as parse
-use Rattle.parse_buffer.specs.Parse.{parse_u32, InPlace, Taking}
+use Rattle.parse_buffer.specs.Parse.{parse_u32, InPlace, PartAt}
 use Rattle.paged.specs.Refusal as paged
 use Rattle.paged.specs.declared.refusal.Refusal.{Refusal}
 use Rattle.paged.specs.Pages.{through}
@@ -44,7 +44,7 @@ use Rattle.paged.proofs.LiesLaws.{lies_byte}
 use Rattle.container_statements.proofs.Told.{told}
 
 -- two parts of one list that begin at one place
-same_place : (s : Bor (List ℕ)) (at n : ℕ) (a b : Option (Bor (List ℕ))) → Taking s at n a → Taking s at n b → IfSome a (λ p. IfSome b (InPlace p 0))
+same_place : (s : Bor (List ℕ)) (at n : ℕ) (a b : Option (Bor (List ℕ))) → PartAt s at n a → PartAt s at n b → IfSome a (λ p. IfSome b (InPlace p 0))
 same_place s at n None b p q = tt
 same_place s at n (Some a) None p q = tt
 same_place s at n (Some a) (Some b) p q = (q.place.0 ∙ sym p.place.0, omega (arith, p.place.1, q.place.1))
@@ -53,7 +53,8 @@ pub single_valued : SingleValued
 single_valued =
     record {
       of_parse_u32 = λ s at a b p q. only parse.told told.parsed (parse_u32 s at) a b p.answer q.answer;
-      take = λ s at n a b p q. (p.bytes ∙ sym q.bytes, same_place s at n a b p q);
+      take = λ s at n a b p q. (p.bytes ∙ sym q.bytes, (q.place.0 ∙ sym p.place.0, omega (arith, p.place.1, q.place.1)));
+      part_at = λ s at n a b p q. (p.bytes ∙ sym q.bytes, same_place s at n a b p q);
       opening = λ f len a b p q. only paged.told told.opened (opening f len) a b p.answer q.answer;
       of_stream_count = λ f len a b p q. only paged.told told.counted (stream_count f len) a b p.answer q.answer;
       map = λ f len k limit o t a b x y u v p q.

@@ -4,7 +4,7 @@ use Rattle.std.specs.Borrow.{Bor}
 use Rattle.outcome.specs.Only.{Only, Only₂, Only₃, Injective}
 use Rattle.parse_buffer.specs.Bytes.{File}
 use Rattle.parse_buffer.specs.Parse as parse
-use Rattle.parse_buffer.specs.Parse.{Parsing, InPlace, Taking}
+use Rattle.parse_buffer.specs.Parse.{Parsing, InPlace, Taking, PartAt}
 use Rattle.parse_buffer.specs.declared.Word.{Word}
 use Rattle.paged.specs.Refusal.{refusal_in, told}
 use Rattle.paged.specs.declared.refusal.Refusal.{Refusal}
@@ -49,7 +49,9 @@ pub record Told : Type 0 where
 pub record SingleValued : Type 0 where
   pub of_parse_u32 : (s : List ℕ) (at : ℕ) → Only (Parsing s at)
   -- the same bytes at the same place of memory
-  pub take : (s : Bor (List ℕ)) (at n : ℕ) (a b : Option (Bor (List ℕ))) → Taking s at n a → Taking s at n b →
+  pub take : (s : Bor (List ℕ)) (at n : ℕ) (a b : Bor (List ℕ)) → Taking s at n a → Taking s at n b →
+      (a.now ≡ b.now) × InPlace a 0 b
+  pub part_at : (s : Bor (List ℕ)) (at n : ℕ) (a b : Option (Bor (List ℕ))) → PartAt s at n a → PartAt s at n b →
       (option_map (λ p. p.now) a ≡ option_map (λ p. p.now) b) × IfSome a (λ p. IfSome b (InPlace p 0))
   pub opening : (f : File) (len : ℕ) → Only (Opening f len)
   pub of_stream_count : (f : File) (len : ℕ) → Only (Counting f len)

@@ -6,7 +6,7 @@
 
 ghost use Rattle.std.specs.Prelude.{◌≡◌, ◌+◌, ◌≤◌, leb, length};
 ghost use Rattle.parse_buffer.specs.Bytes.{byte_at, word};
-ghost use Rattle.parse_buffer.specs.Parse.{Parsing, Taking};
+ghost use Rattle.parse_buffer.specs.Parse.{Parsing, Taking, PartAt};
 
 /// A number that was read, and the place after it.
 #[derive(Clone, Copy, Debug, PartialEq, Eq)]
@@ -33,9 +33,16 @@ pub fn parse_u32(bytes: &[u8], at: usize) -> Result<Word, ShortData>
     })
 }
 
-/// The n bytes from a place on, if they are there: the very part of the lent bytes, with no copy.
-pub fn take(bytes: &[u8], at: usize, n: usize) -> Option<&[u8]>
+/// The n bytes from a place on: the very part of the lent bytes, with no copy. If they are not there, an empty part.
+pub fn take(bytes: &[u8], at: usize, n: usize) -> &[u8]
     ensures { Taking bytes.entry at n result }
+{
+    part_at(bytes, at, n).unwrap_or(&bytes[0..0])
+}
+
+/// The same, but None if they are not there.
+pub fn part_at(bytes: &[u8], at: usize, n: usize) -> Option<&[u8]>
+    ensures { PartAt bytes.entry at n result }
 {
     if !can_take(bytes, at, n) {
         return None;
@@ -43,7 +50,7 @@ pub fn take(bytes: &[u8], at: usize, n: usize) -> Option<&[u8]>
     Some(&bytes[at..at + n])
 }
 
-/// Whether n bytes are there from a place on.
+/// Whether n bytes are there from a place on: `take` returns them, and not an empty part in their stead.
 pub fn can_take(bytes: &[u8], at: usize, n: usize) -> bool
     ensures { result ≡ leb (at + n) (length bytes.now) }
 {

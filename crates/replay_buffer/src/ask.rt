@@ -36,14 +36,13 @@ fn number(d: Digest, bytes: &[u8], at: usize) -> Digest {
     }
 }
 
-// No program can see where a part begins: `take` promises that it begins at `at`, and the Rust's place is compared with
-// that.
+// The Rust refuses if the bytes are not there. Ours must return an empty part then, and the length shows it. No program
+// can see where a part begins: `take` promises that it begins at `at`, and the Rust's place is compared with that.
 fn part(d: Digest, bytes: &[u8], at: usize, n: usize) -> Digest {
-    match parse_buffer::take(bytes, at, n) {
-        Some(part) => {
-            let taken = d.plain(TAKEN).plain(at as u64);
-            taken.plain(part.len() as u64).all(part)
-        }
-        None => d.plain(NOT_THERE).plain(0),
+    let part = parse_buffer::take(bytes, at, n);
+    let length = part.len() as u64;
+    if parse_buffer::can_take(bytes, at, n) {
+        return d.plain(TAKEN).plain(at as u64).plain(length).all(part);
     }
+    d.plain(NOT_THERE).plain(length)
 }

@@ -1,6 +1,6 @@
 -- Runs: where the entries of a list stand in one page, and what their words are.
 use mathlib.Core.Path.{◌≡◌, refl, sym, ap, ◌∙◌}
-use Prim.Native.Nat.{ℕ, ◌+◌, ◌*◌, ◌/◌, ◌%◌, ◌^◌, ◌≤◌, ◌<◌}
+use Prim.Native.Nat.{ℕ, ◌+◌, ◌-◌, ◌*◌, ◌/◌, ◌%◌, ◌^◌, ◌≤◌, ◌<◌}
 use native.Mathlib.Omega.{arith}
 use native.Mathlib.Nat.{div-add-mod', add_assoc}
 use lib.Arith.{digits_div, digits_mod}
@@ -11,7 +11,7 @@ use Rattle.paged.specs.Inner.{words_left}
 use Rattle.paged.proofs.SizeLaws.{word_in_page}
 use Rattle.paged.specs.declared.pages.Pages.{Pages}
 use Rattle.paged.specs.declared.pages.Pages.TheVariants.{Location, Directory, Stream}
-use Rattle.runs.specs.Inner.{entry_place, Running, in_page}
+use Rattle.runs.specs.Inner.{entry_place, Lying, Running, in_page}
 use Rattle.runs.specs.declared.Run.{Run}
 
 -- ---- indices stay small
@@ -67,6 +67,14 @@ module _ (f : File) (p i n : ℕ) {pages : Pages} where
 
 pub ruleset run_cases = (run_location, run_directory, run_stream)
 
--- ---- the words of a run are the list's page numbers
+-- ---- a run that lies in the file: its words can be read, and are the list's page numbers
+module _ {f : File} {len p n i : ℕ} {pages : Pages} {r : Run} (lying : Lying f len p pages n) (run : Running f p pages i (n - i) r) (l : i < n) (some : 0 < r.words) where
+  pub run_lies : r.at + 4 * r.words ≤ len
+  run_lies =
+      let few = run.few in
+      let last = run.places (r.words - 1) (omega arith) in
+      let in_file = lying.lies (i + (r.words - 1)) (omega arith) in
+      omega arith
+
 pub run_page : {f : File} {p n i : ℕ} {pages : Pages} {r : Run} → Running f p pages i n r → (g : ℕ) → g < r.words → word f (r.at + 4 * g) ≡ page_of f p pages (i + g)
 run_page {f} {p} {i = i} {pages = pages} run g h = ap (word f) (run.places g h) ∙ entry_is f p pages (i + g)
