@@ -15,9 +15,10 @@ use Rattle.std.specs.Prelude.{Option, Some, None, IfSome, option_to_list}
 use Rattle.store.specs.Putting.{Putting}
 use Rattle.store.proofs.PutLaws.{puts_more}
 use Rattle.annotations.specs.Annotation.{triple}
-use Rattle.shortest.proofs.ShortLaws.{short_most}
+use Rattle.annotations.specs.declared.annotation.Triple.{Triple}
+use Rattle.shortest.proofs.ShortLaws.{short_some, short_most}
 use Rattle.annotation_records.specs.Ranges.{carries, writable}
-use Rattle.annotation_records.specs.Operands.{operand_of, operands_of, shorts}
+use Rattle.annotation_records.specs.Operands.{operand_of, operands_of, shorts, annotation_bytes}
 use Rattle.annotation_records.specs.Inner.{first_operand, second_operand, numbers_in, NumbersOf}
 use Rattle.annotation_records.proofs.RangeLaws.{kept, is_kept, Carried, signed, packed, two, plain, carried, Writable, can_be_written, writable_carries}
 use Rattle.annotation_records.specs.declared.record.Record.{Record}
@@ -140,6 +141,11 @@ numbers_few n = go n.second
     go : (second : Option ℕ) → length (shorts (n.opcode ∷ n.first ∷ option_to_list second)) ≤ 12
     go (Some m) = rw (length-append, length-append, length-append) (omega (arith, short_most n.opcode, short_most n.first, short_most m))
     go None = rw (length-append, length-append) (omega (arith, short_most n.opcode, short_most n.first))
+
+-- an annotation has an opcode, so it takes bytes
+pub annotation_some : (t : Triple) → 1 ≤ length (annotation_bytes t)
+unfolding shorts
+annotation_some t = rw length-append (omega (arith, short_some t.opcode))
 
 -- ---- `put`: form after form
 module _ {a b out out₁ out₂ : List ℕ} {at r₁ r₂ : ℕ} (p : Putting a out at out₁ r₁) (q : Putting b out₁ r₁ out₂ r₂) where
