@@ -4,11 +4,10 @@
 //!
 //! run.rt: the run over the records of a list. record.rt: what differs between the programs. tally.rt: what the records
 //! came to. digest.rt: the digest of answers. stores.rt: asking with a store that is lent. number.rt: little-endian
-//! numbers. input.rt: reading into a buffer.
+//! numbers.
 #![tactic(auto)]
 
 mod digest;
-mod input;
 mod number;
 mod record;
 mod run;

@@ -1,6 +1,7 @@
 // The tally of replayed records, and how a program reports it.
-use std::io;
-use std::io::Write;
+
+// The number of standard output.
+const STDOUT_FILENO: i32 = 1;
 
 // Whether there is more to read.
 #[derive(Clone, Copy, PartialEq)]
@@ -53,20 +54,22 @@ impl Tally {
         }
     }
 
-    pub fn report<W: Write>(self, writer: &mut W) -> io::Result<()> {
+    // A write that fails is not told, and the later ones are still tried.
+    pub fn report(self) {
         if self.next == Next::Bad {
-            return writer.write_all(b"bad list\n");
+            io::write_all(STDOUT_FILENO, b"bad list\n");
+            return;
         }
-        let Tally {
-            questions,
-            differ,
-            ..
-        } = self;
-        writeln!(writer, "questions {questions}")?;
-        writeln!(writer, "differ {differ}")?;
-        match self.first {
-            Some(first) => writeln!(writer, "first {first}"),
-            None => Ok(()),
+        line(b"questions ", self.questions);
+        line(b"differ ", self.differ);
+        if let Some(first) = self.first {
+            line(b"first ", first);
         }
     }
+}
+
+fn line(name: &[u8], n: u64) {
+    io::write_all(STDOUT_FILENO, name);
+    io::print_decimal(STDOUT_FILENO, n);
+    io::write_all(STDOUT_FILENO, b"\n");
 }

@@ -9,10 +9,9 @@ mod record;
 
 use record::{HEADER, LARGEST_ROOM, LONGEST, Question};
 use replay::replay;
-use std::io;
 
-fn main(rt: HostRuntime) -> io::Result<()> {
+fn main() {
     let mut bytes = [0u8; LONGEST];
     let mut store = [0i64; LARGEST_ROOM];
-    replay::<HEADER, Question, _, _>(&mut rt.stdin(), &mut rt.stdout(), &mut bytes, &mut store)
+    replay::<HEADER, Question>(&mut bytes, &mut store);
 }

@@ -9,9 +9,8 @@ mod record;
 
 use record::{HEADER, LONGEST, Question};
 use replay::replay;
-use std::io;
 
-fn main(rt: HostRuntime) -> io::Result<()> {
+fn main() {
     let mut bytes = [0u8; LONGEST];
-    replay::<HEADER, Question, _, _>(&mut rt.stdin(), &mut rt.stdout(), &mut bytes, &mut ())
+    replay::<HEADER, Question>(&mut bytes, &mut ());
 }

@@ -10,9 +10,8 @@ mod record;
 
 use record::{HEADER, LARGEST_ROOM, LONGEST, MOST_RUNS, MOST_SIZES, Question, RUN, Stores};
 use replay::{fill, replay};
-use std::io;
 
-fn main(rt: HostRuntime) -> io::Result<()> {
+fn main() {
     let mut runs = [0u8; MOST_RUNS * RUN];
     let mut stores = Stores {
         sizes: [0; MOST_SIZES],
@@ -20,5 +19,5 @@ fn main(rt: HostRuntime) -> io::Result<()> {
         store: [0; LARGEST_ROOM],
     };
     fill(&mut stores.bytes, ask::lent_byte);
-    replay::<HEADER, Question, _, _>(&mut rt.stdin(), &mut rt.stdout(), &mut runs, &mut stores)
+    replay::<HEADER, Question>(&mut runs, &mut stores);
 }

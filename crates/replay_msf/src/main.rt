@@ -10,14 +10,13 @@ mod record;
 
 use record::{HEADER, LONGEST_BODY, LONGEST_FILE, MOST_BYTES, Question, Stores};
 use replay::replay;
-use std::io;
 
-fn main(rt: HostRuntime) -> io::Result<()> {
+fn main() {
     let mut body = [0u8; LONGEST_BODY];
     let mut stores = Stores {
         base: [0; LONGEST_FILE],
         file: [0; LONGEST_FILE],
         bytes: [0; MOST_BYTES],
     };
-    replay::<HEADER, Question, _, _>(&mut rt.stdin(), &mut rt.stdout(), &mut body, &mut stores)
+    replay::<HEADER, Question>(&mut body, &mut stores);
 }

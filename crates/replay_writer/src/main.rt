@@ -10,13 +10,12 @@ mod record;
 
 use record::{HEADER, LARGEST_ROOM, LONGEST, Question, Stores, WIDTH};
 use replay::replay;
-use std::io;
 
-fn main(rt: HostRuntime) -> io::Result<()> {
+fn main() {
     let mut body = [0u8; LONGEST * WIDTH];
     let mut stores = Stores {
         list: [0; LONGEST],
         store: [0; LARGEST_ROOM],
     };
-    replay::<HEADER, Question, _, _>(&mut rt.stdin(), &mut rt.stdout(), &mut body, &mut stores)
+    replay::<HEADER, Question>(&mut body, &mut stores);
 }
