@@ -1,2 +1,3 @@
+pub mod Loan
 pub mod EndLaws
 pub mod Statements
