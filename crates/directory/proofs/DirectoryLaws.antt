@@ -49,12 +49,6 @@ module _ {f : File} {len : ℕ} {r : Result Header Refusal} {h : Header} (p : Lo
   unfolding raise
   list_lies g w = list_lies_lem f len h.pagesize at_located.size (rw (← pm) (sym g ∙ ap told w))
 
--- a page number of the list that does not pass
-pub page_bad : {f : File} {len : ℕ} {h : Header} {d m : ℕ} {u : Unit {0}} {v : paper.Refusal} (r : Result Header Refusal) → Ok h ≡ located f len → d ≡ directory_pages h → m ≡ need h.pagesize (4 * d) → Ok u ≡ lies_in_file len h.pagesize (location f) (4 * d) m → Err v ≡ check_pages h.used (directory_page f h.pagesize) d → told r ≡ Err v → Listing f len r
-unfolding listed and_then and_next
-page_bad r e pd pm w x t =
-    record { answer = t ∙ rw (← e, ← pd, ← pm, ← w, ← x) }
-
 pub ruleset list_laws = (need_le, entries_fit, locations_lie)
 
 -- ---- what is known once the list is read: it lies in the file, and the pages that it names passed
@@ -80,6 +74,12 @@ listed_at f len {h} e =
       checked = rw (← same) c;
       lie = list_lies_lem f len h.pagesize size (rw (← same) l);
     }
+
+-- ---- step 4, where a page number of the list does not pass
+pub page_bad : {f : File} {len : ℕ} {h : Header} {d m : ℕ} {u : Unit {0}} {v : paper.Refusal} (r : Result Header Refusal) → Ok h ≡ located f len → d ≡ directory_pages h → m ≡ need h.pagesize (4 * d) → Ok u ≡ lies_in_file len h.pagesize (location f) (4 * d) m → Err v ≡ check_pages h.used (directory_page f h.pagesize) d → told r ≡ Err v → Listing f len r
+unfolding listed and_then and_next
+page_bad r e pd pm w x t =
+    record { answer = t ∙ rw (← e, ← pd, ← pm, ← w, ← x) }
 
 -- ---- step 5
 pub listed_lie : {f : File} {len : ℕ} {r : Result Header Refusal} {h : Header} {d : ℕ} → Listing f len r → r ≡ Ok h → d ≡ directory_pages h → Lying f len h.pagesize Directory d

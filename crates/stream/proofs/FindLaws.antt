@@ -4,7 +4,7 @@ use mathlib.Core.Path.{◌≡◌, refl, sym, ◌∙◌, ap}
 use mathlib.Core.Bool.{false}
 use Prim.Native.Nat.{ℕ, ◌+◌, ◌-◌, min, ◌≤◌, ◌<◌}
 use native.Mathlib.Omega.{arith}
-use borrow.Author.Tests.{le-leb, lt-leb, leb-true, ltb-true, not-true}
+use borrow.Author.Tests.{le-leb, lt-leb, leb-true}
 use lib.Dec.{eqb}
 use Rattle.std.specs.Prelude.{Result, Ok, Err}
 use Rattle.outcome.specs.Outcome.{and_next, and_then, require, raise}
@@ -38,15 +38,8 @@ module _ (f : File) (len k : ℕ) where
     pub present : eqb x.size absent ≡ false
 
   pub present_at : {x : Present} → present f len k ≡ Ok x → PresentAt x
-  unfolding present
-  present_at e =
-      came_by _ _ e λ h d e₁.
-      came _ _ e₁ λ _ _ e₂.
-      came _ _ e₂ λ _ b e₃.
-      came _ _ e₃ λ _ _ e₄.
-      came _ _ e₄ λ _ a e₅.
-      rw (← ok_is e₅)
-      (record { count = refl; below = ltb-true _ _ (passed _ _ b); size = refl; present = not-true _ (passed _ _ a) })
+  unfolding present and_then and_next require
+  present_at {x} e = record { count = grind arith; below = grind arith; size = grind arith; present = grind arith }
 
 -- ---- the sizes
 module _ {f : File} {len k : ℕ} {r : Result Present Refusal} (p : Sizing f len k r) {x : Present} (e : r ≡ Ok x) where

@@ -21,7 +21,7 @@ pub extend-walk-requires-clause-near : goal.extend-walk-requires-clause-near
 extend-walk-requires-clause-near c = by_near c.loop-s.invariant.walk c.in-Some.ensures.steps
 
 pub overflow_sub-walk : goal.overflow_sub-walk
-overflow_sub-walk c = onward_some c.in_ok-x.x _ c.in-Some.s c.loop-s.walk c.extend-walk.ensures
+overflow_sub-walk c = search onward_some
 
 pub bounds-store-walk : goal.bounds-store-walk
 bounds-store-walk c =
