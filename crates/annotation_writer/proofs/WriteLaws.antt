@@ -6,7 +6,7 @@ use Prim.Native.Nat.{ℕ, zero, suc, ◌+◌, ◌-◌, ◌*◌, ◌%◌, ◌^◌
 use native.Mathlib.Omega.{arith}
 use native.Mathlib.Nat.{add-zero, add-suc}
 use native.Mathlib.Numerals.{add-one}
-use borrow.Author.Tests.{eq-eqb, eqb-true}
+use borrow.Author.Tests.{eq-eqb, ne_eqb, eqb-true}
 use lib.Dec.{eqb}
 use lib.ListN.{length, length-append}
 use lib.Seq.{sets}
@@ -60,6 +60,10 @@ pub record MeasuredSoFar (list : List ℤ) (k total : ℕ) : Type 0 where
   pub sum : total ≡ length (bytes_of (annotations_in list k))
   pub few : total ≤ 12 * k
 
+pub measure_ragged : (list : List ℤ) → (length list % entries_each ≡ 0 → ⊥) → Err (refusal_in RaggedList) ≡ measuring list
+unfolding measuring require and_next
+measure_ragged list h = rw (ne_eqb (length list % entries_each) 0 h)
+
 pub measure_none : (list : List ℤ) → length list % entries_each ≡ 0 → MeasuredSoFar list 0 0
 unfolding annotations_in bytes_of
 measure_none list h =
@@ -107,7 +111,7 @@ module _ {list : List ℤ} {k total : ℕ} (m : MeasuredSoFar list k total) wher
       let same : k ≡ count list = omega (arith, m.within) in
       rw (eq-eqb (length list % entries_each) 0 m.whole, ← same, m.passed, m.sum)
 
-pub ruleset measure_cases = (measure_none, measure_fits, measure_more, measure_bad, measure_end)
+pub ruleset measure_cases = (measure_ragged, measure_none, measure_fits, measure_more, measure_bad, measure_end)
 
 -- ---- `write_all`: the bytes of the first k records are put
 module _ (list : List ℤ) where

@@ -1,6 +1,6 @@
 -- Where a step ends: the place of an end is the length, and at or past the length every step is that end. Every other
 -- step ends past its start.
-use mathlib.Core.Path.{◌≡◌, refl, subst, ap, ◌∙◌}
+use mathlib.Core.Path.{◌≡◌, refl, subst}
 use mathlib.Core.Bool.{Bool, true, false}
 use mathlib.Core.List.{List}
 use Prim.Native.Nat.{ℕ, ◌≤◌, ◌<◌}
@@ -8,7 +8,6 @@ use native.Mathlib.Omega.{arith}
 use borrow.Author.Tests.{le-leb, leb-false}
 use lib.Dec.{leb, eqb}
 use lib.ListN.{length}
-use denote.Ref.{Bor}
 use Rattle.std.specs.Prelude.{Result, Ok, Err}
 use Rattle.outcome.specs.Outcome.{and_next, and_then, ◌>>=◌, ◌>>◌, require}
 use Rattle.outcome.proofs.OutcomeLaws.{by_test}
@@ -18,14 +17,6 @@ use Rattle.numbers.proofs.FormLaws.{Form, short, invalid, form_at}
 use Rattle.numbers.proofs.MoveLaws.{number_in}
 use Rattle.annotations.specs.Step.{PlacedTriple, Stepped, annotation, end, operands, step_at}
 use Rattle.numbers.specs.declared.number.Number.{Number}
-use Rattle.annotations.specs.Promises.{step_in}
-use Rattle.annotations.specs.declared.step.Annotated.{Annotated}
-use Rattle.annotations.specs.declared.step.Step.{Step}
-use Rattle.annotations.specs.declared.step.Step.TheVariants.{Annotation, Refused}
-use Rattle.numbers.specs.declared.refusal.PlacedRefusal.{PlacedRefusal}
-use Rattle.reader.specs.Place.{place_after}
-use Rattle.reader.specs.Promises.{Moving, bytes_left}
-use Rattle.reader.specs.declared.BinaryAnnotationsIter.{BinaryAnnotationsIter}
 
 -- if the answer is an end, its place is the length; else its place is past the start
 pub data EndsAt (s : List ℕ) (from : ℕ) : Result Stepped Stop → Type 0 where
@@ -48,7 +39,7 @@ module _ {s : List ℕ} {from : ℕ} (inside : from < length s) where
   after_test true why l h = h
   after_test false why l h = stopped inside l
 
-step_ends : (s : List ℕ) (at : ℕ) → EndsAt s at (step_at s at)
+pub step_ends : (s : List ℕ) (at : ℕ) → EndsAt s at (step_at s at)
 unfolding step_at operands
 step_ends s at =
     let P = EndsAt s at in
@@ -69,28 +60,6 @@ module _ (s : List ℕ) (at : ℕ) where
       go _ (found i l) f = absurd (let z : ◌≡◌ {A = ℕ} 0 1 = cc in omega arith)
       go _ ended f = cc
       go _ (stopped i l) f = absurd (let z : ◌≡◌ {A = ℕ} 0 1 = cc in omega arith)
-
--- ---- the iterator: after an item fewer bytes are left
-module _ {r r' : BinaryAnnotationsIter} {step : Step Annotated} (m : Moving r step r') where
-  less : ((place : ℕ) → step_in step ≡ Ok (end place) → ⊥) → bytes_left r' < bytes_left r
-  unfolding place_after
-  less n = go (step_at r.bytes.now r.at) (step_ends r.bytes.now r.at) refl
-    where
-      same : length r'.bytes.now ≡ length r.bytes.now
-      same = ap (λ (y : Bor (List ℕ)). length y.now) m.bytes
-
-      go : (o : Result Stepped Stop) → EndsAt r.bytes.now r.at o → step_at r.bytes.now r.at ≡ o → bytes_left r' < bytes_left r
-      go _ (found {x} i l) e = let p : r'.at ≡ x.next = m.place ∙ ap place_after e in let k = same in omega arith
-      go _ ended e = absurd (n _ (m.answer ∙ e))
-      go _ (stopped {why} i l) e = let p : r'.at ≡ why.place = m.place ∙ ap place_after e in let k = same in omega arith
-
-  pub less_found : {a : Annotated} → step ≡ Annotation a → bytes_left r' < bytes_left r
-  unfolding step_in
-  less_found e = less (λ place f. absurd (let g = ap step_in e in let z : ◌≡◌ {A = ℕ} 0 1 = cc in omega arith))
-
-  pub less_refused : {why : PlacedRefusal} → step ≡ Refused why → bytes_left r' < bytes_left r
-  unfolding step_in
-  less_refused e = less (λ place f. absurd (let g = ap step_in e in let z : ◌≡◌ {A = ℕ} 0 1 = cc in omega arith))
 
 pub step_past : (s : List ℕ) (at : ℕ) → length s ≤ at → step_at s at ≡ Ok (end (length s))
 unfolding step_at

@@ -1,3 +1,4 @@
 pub mod Loan
 pub mod EndLaws
 pub mod Statements
+pub mod ItemLaws

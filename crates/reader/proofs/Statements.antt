@@ -27,7 +27,7 @@ same_reader a b e f i = record { bytes = e i; at = f i }
 same_moved : (a b : Moved) → a.step ≡ b.step → a.place ≡ b.place → a ≡ b
 same_moved a b e f i = record { step = e i; place = f i }
 
-same_step : (a b : Step Annotated) → step_in a ≡ step_in b → a ≡ b
+pub same_step : (a b : Step Annotated) → step_in a ≡ step_in b → a ≡ b
 same_step = told.step
 
 same_next : (r : BinaryAnnotationsIter) → Only₂ (Moving r)
@@ -50,8 +50,31 @@ single_valued =
           same_moved a b (same_step a.step b.step (p.answer ∙ sym q.answer)) (p.place ∙ sym q.place);
     }
 
+-- ---- n calls are n steps
+-- from any place on: what the statement says at 0
+record From (s : List ℕ) (at : ℕ) (bytes : Bor (List ℕ)) (steps : List (Step Annotated)) (last : BinaryAnnotationsIter) : Type 0 where
+  answers : map step_in steps ≡ steps_from s at (length steps)
+  place : last.at ≡ place_from s at (length steps)
+  same : last.bytes ≡ bytes
+
+calls : (s : List ℕ) (at : ℕ) {r last : BinaryAnnotationsIter} {steps : List (Step Annotated)} → r.bytes.now ≡ s → r.at ≡ at → Called r steps last → From s at r.bytes steps last
+unfolding steps_from place_from
+calls s at e f none = record { answers = refl; place = f; same = refl }
+calls s at {r} e f (more {r' = r'} m rest) =
+    let here : step_at r.bytes.now r.at ≡ step_at s at = rw (e, f) in
+    let later = calls s (place_after (step_at s at)) (ap (λ x. x.now) m.bytes ∙ e) (m.place ∙ ap place_after here) rest in
+    record { answers = λ i. (m.answer ∙ here) i ∷ later.answers i; place = later.place; same = later.same ∙ m.bytes }
+
+pub calling : Calling
+calling =
+    record {
+      is = λ lent r last steps p c.
+          let all = calls lent.now 0 (ap (λ x. x.now) p.bytes) p.place c in
+          record { answers = all.answers; place = all.place; bytes = all.same ∙ p.bytes };
+    }
+
 -- ---- the end
-end_in : (place : ℕ) → step_in (End place) ≡ Ok (end place)
+pub end_in : (place : ℕ) → step_in (End place) ≡ Ok (end place)
 unfolding step_in
 end_in place = refl
 
@@ -77,26 +100,3 @@ after_end r r' r'' place step m k =
 
 pub stays_at_the_end : StaysAtTheEnd
 stays_at_the_end = record { at_the_end = at_end; after_an_end = after_end }
-
--- ---- n calls are n steps
--- from any place on: what the statement says at 0
-record From (s : List ℕ) (at : ℕ) (bytes : Bor (List ℕ)) (steps : List (Step Annotated)) (last : BinaryAnnotationsIter) : Type 0 where
-  answers : map step_in steps ≡ steps_from s at (length steps)
-  place : last.at ≡ place_from s at (length steps)
-  same : last.bytes ≡ bytes
-
-calls : (s : List ℕ) (at : ℕ) {r last : BinaryAnnotationsIter} {steps : List (Step Annotated)} → r.bytes.now ≡ s → r.at ≡ at → Called r steps last → From s at r.bytes steps last
-unfolding steps_from place_from
-calls s at e f none = record { answers = refl; place = f; same = refl }
-calls s at {r} e f (more {r' = r'} m rest) =
-    let here : step_at r.bytes.now r.at ≡ step_at s at = rw (e, f) in
-    let later = calls s (place_after (step_at s at)) (ap (λ x. x.now) m.bytes ∙ e) (m.place ∙ ap place_after here) rest in
-    record { answers = λ i. (m.answer ∙ here) i ∷ later.answers i; place = later.place; same = later.same ∙ m.bytes }
-
-pub calling : Calling
-calling =
-    record {
-      is = λ lent r last steps p c.
-          let all = calls lent.now 0 (ap (λ x. x.now) p.bytes) p.place c in
-          record { answers = all.answers; place = all.place; bytes = all.same ∙ p.bytes };
-    }

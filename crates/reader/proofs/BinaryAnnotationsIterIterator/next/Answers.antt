@@ -1,6 +1,6 @@
 -- After an item fewer bytes are left.
 use Rattle.std.proofs.Common.{rules}
-use Rattle.reader.proofs.EndLaws.{less_found, less_refused}
+use Rattle.reader.proofs.ItemLaws.{less_found, less_refused}
 use Rattle.reader.proofs.BinaryAnnotationsIterIterator.next.Goals as goal
 
 pub returns-in-Annotation-clause-goes : goal.returns-in-Annotation-clause-goes
