@@ -1,12 +1,12 @@
--- The reader as an iterator: after an item fewer bytes are left. It stands on `Statements`, which a wrong promise of
--- `next` is to be refused at first.
+-- The reader as an iterator: after an item fewer bytes are left. It imports `Statements`, so that a wrong promise of
+-- `next` is refused there first.
 use mathlib.Core.Path.{◌≡◌, refl, sym, ap, ◌∙◌}
 use mathlib.Core.List.{List}
 use Prim.Native.Nat.{ℕ, ◌<◌}
 use native.Mathlib.Omega.{arith}
 use lib.ListN.{length}
 use denote.Ref.{Bor}
-use Rattle.std.specs.Prelude.{Result, Ok, Err}
+use Rattle.std.specs.Prelude.{Result, Ok}
 use Rattle.numbers.specs.Refusal.{Stop}
 use Rattle.annotations.specs.Step.{Stepped, end, step_at}
 use Rattle.annotations.specs.Promises.{step_in}
