@@ -1,6 +1,6 @@
 -- The numbers of a record as the machine computes them: small enough at each step, and those of `operands_of`. Then their
 -- widths, and their forms put one after another.
-use mathlib.Core.Path.{◌≡◌, sym, ◌∙◌, ap}
+use mathlib.Core.Path.{◌≡◌, refl, sym, ◌∙◌, ap}
 use mathlib.Core.Bool.{Bool, true, false, cond, true≢false}
 use mathlib.Core.List.{List, [], ◌∷◌, ◌++◌, append-nil, append_assoc}
 use Prim.Native.Nat.{ℕ, ◌+◌, ◌*◌, ◌^◌, ◌≤◌, ◌<◌}
@@ -11,6 +11,7 @@ use lib.ListN.{length, length-append}
 use lib.IntN.{ℤ, pos, negsuc, nat_abs}
 use mir.Syntax.{w32}
 use mir.Val.{Fits}
+use Rattle.std.specs.Bool.{then_some}
 use Rattle.std.specs.Prelude.{Option, Some, None, IfSome, option_to_list}
 use Rattle.store.specs.Putting.{Putting}
 use Rattle.store.proofs.PutLaws.{puts_more}
@@ -125,13 +126,14 @@ module _ (r : Record) (w : writable r ≡ true) where
             small = record { opcode = let l = good.known in omega arith; first = first_form good.carries; second = second_form good.carries };
           })
 
-      pub one_operand : (op ≡ 12 → ⊥) → NumbersOf r (record { opcode = op; first = first; second = None })
-      one_operand n = numbers (rw (ne_eqb op 12 n))
+      pub of_twelve : {m : ℕ} → m ≡ nat_abs (kept r.second) → {second : Option ℕ} → second ≡ then_some (eqb op 12) m → NumbersOf r (record { opcode = op; first = first; second = second })
+      of_twelve {m} k l = numbers (l ∙ go (eqb op 12))
+        where
+          go : (b : Bool) → then_some b m ≡ cond b (Some (nat_abs r.second)) None
+          go true = ap Some (k ∙ ap nat_abs right_kept)
+          go false = refl
 
-      pub two_operands : op ≡ 12 → {second : ℕ} → second ≡ nat_abs (kept r.second) → NumbersOf r (record { opcode = op; first = first; second = Some second })
-      two_operands n k = numbers (rw (eq-eqb op 12 n, k, right_kept))
-
-pub ruleset numbers_cases = (opcode_magnitude, second_magnitude, opcode_carries, one_operand, two_operands)
+pub ruleset numbers_cases = (opcode_magnitude, second_magnitude, opcode_carries, of_twelve)
 
 -- at most four bytes each
 pub numbers_few : (n : Numbers) → length (shorts (numbers_in n)) ≤ 12

@@ -3,12 +3,9 @@
 use Rattle.std.specs.Prelude.{ℕ, Bool, true, false, cond, eqb, ℤ, pos, neg_ℤ, nat_abs}
 use Rattle.std.specs.Int.Signed.{le_z}
 use Rattle.annotation_records.specs.declared.record.Record.{Record}
+use Rattle.annotation_records.specs.declared.range.Range.{Range}
 
 -- "from … to …": both ends belong to a range
-pub record Range : Type 0 where
-  pub low : ℤ
-  pub high : ℤ
-
 infix 20 ◌to◌
 abbrev pub ◌to◌ : ℤ → ℤ → Range
 low to high = record { low = low; high = high }

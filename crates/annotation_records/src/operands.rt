@@ -57,11 +57,7 @@ pub fn numbers_of(r: Record) -> Numbers
     Numbers {
         opcode,
         first: first_operand(opcode, r.first, r.second),
-        second: if opcode == 12 {
-            Some(magnitude(r.second))
-        } else {
-            None
-        },
+        second: (opcode == 12).then_some(magnitude(r.second)),
     }
 }
 

@@ -1,6 +1,6 @@
 // Which records can be written: the range of each number, by the opcode.
 ghost use Rattle.std.specs.Prelude.{◌≡◌, ◌≤◌, nat_abs};
-ghost use Rattle.annotation_records.specs.Ranges.{carries, writable};
+ghost use Rattle.annotation_records.specs.Ranges.{within, carries, first_range, second_range, writable};
 
 use crate::record::Record;
 
@@ -14,6 +14,21 @@ const LARGEST_ABOVE: i64 = 16777215;
 // The largest number of four bits.
 const LARGEST_NIBBLE: i64 = 15;
 
+// From one number to another, both included.
+#[derive(Clone, Copy)]
+pub(crate) struct Range {
+    pub low: i64,
+    pub high: i64,
+}
+
+impl Range {
+    fn contains(self, z: i64) -> bool
+        ensures { result ≡ within self z }
+    {
+        self.low <= z && z <= self.high
+    }
+}
+
 /// Whether a record has an opcode of 1 to 13, and numbers that it can carry.
 #[tactic(auto, unfolding(crate::specs::Ranges::writable))]
 pub fn is_writable(r: Record) -> bool
@@ -22,20 +37,51 @@ pub fn is_writable(r: Record) -> bool
     (1..=13).contains(&r.opcode) && can_carry(magnitude(r.opcode), r.first, r.second)
 }
 
-// Whether an opcode can carry these numbers. 6 and 10 are signed. Only 11 and 12 have a second number; that of any
-// other is 0.
+// Whether an opcode can carry these numbers. Both ranges are picked before a number is looked at: which opcode comes
+// next is nothing that a processor can foresee, so a jump by it costs more than the tests.
 #[tactic(auto, unfolding(crate::specs::Ranges::carries))]
 fn can_carry(opcode: u32, first: i64, second: i64) -> bool
     ensures { result ≡ carries opcode first second }
 {
-    match opcode {
-        6 | 10 => (-LARGEST_SIGNED..=LARGEST_SIGNED).contains(&first) && second == 0,
-        11 => {
-            (0..=LARGEST_NIBBLE).contains(&first)
-                && (-LARGEST_ABOVE..=LARGEST_ABOVE).contains(&second)
+    first_range(opcode).contains(first) && second_range(opcode).contains(second)
+}
+
+// What the first number of an opcode can be. 6 and 10 are signed.
+fn first_range(opcode: u32) -> Range
+    ensures { result ≡ first_range opcode }
+{
+    if opcode == 6 || opcode == 10 {
+        Range {
+            low: -LARGEST_SIGNED,
+            high: LARGEST_SIGNED,
         }
-        12 => (0..=LARGEST).contains(&first) && (0..=LARGEST).contains(&second),
-        _ => (0..=LARGEST).contains(&first) && second == 0,
+    } else if opcode == 11 {
+        Range {
+            low: 0,
+            high: LARGEST_NIBBLE,
+        }
+    } else {
+        Range {
+            low: 0,
+            high: LARGEST,
+        }
+    }
+}
+
+// What the second number can be. Only 11 and 12 have one; that of any other is 0.
+fn second_range(opcode: u32) -> Range
+    ensures { result ≡ second_range opcode }
+{
+    match opcode {
+        11 => Range {
+            low: -LARGEST_ABOVE,
+            high: LARGEST_ABOVE,
+        },
+        12 => Range {
+            low: 0,
+            high: LARGEST,
+        },
+        _ => Range { low: 0, high: 0 },
     }
 }
 

@@ -6,8 +6,5 @@ use Rattle.annotation_records.proofs.operands.numbers_of.Goals as goal
 pub first_operand-requires : goal.first_operand-requires
 first_operand-requires c = search numbers_cases
 
-pub returns-then-opcode-eq12 : goal.returns-then-opcode-eq12
-returns-then-opcode-eq12 c = search numbers_cases
-
-pub returns-else-opcode-eq12 : goal.returns-else-opcode-eq12
-returns-else-opcode-eq12 c = search numbers_cases
+pub returns : goal.returns
+returns c = search numbers_cases
