@@ -93,7 +93,7 @@ impl<'s, 'b> Contents<'s, 'b> {
         let mut at = 0;
         for &size in self.planned.sizes {
             let n = present_bytes(size);
-            r = write_stream(&self.planned, r, &self.bytes[at..at + n], out);
+            r = write_stream(self.planned.layout, r, &self.bytes[at..at + n], out);
             at += n;
         }
     }

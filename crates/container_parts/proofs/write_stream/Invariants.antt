@@ -5,7 +5,7 @@ use Rattle.container_parts.proofs.StreamLaws.{StreamSoFar}
 use Rattle.container_parts.proofs.write_stream.Given as goal
 
 abbrev pub invariant-loop-i : goal.invariant-loop-i
-invariant-loop-i l = StreamSoFar l.planned.layout l.first l.stream l.initial.out l.out l.i l.r
+invariant-loop-i l = StreamSoFar l.layout l.first l.stream l.initial.out l.out l.i l.r
 
 abbrev pub decreases-loop-i : goal.decreases-loop-i
 decreases-loop-i l = length l.stream - l.i
