@@ -251,4 +251,4 @@ module _ {l : Layout} (b : Bounds l) {first : ℕ} {stream o o₁ : List ℕ} {i
   stream_all h =
       record { next = w.rank ∙ ap (λ n. first + need l.pagesize n) (le_antisymm w.within h); filled = w.filled }
 
-pub ruleset streaming = (stream_none, run_mul, stream_less, stream_in_run, stream_all)
+pub ruleset streaming = (stream_none, run_mul, stream_less, stream_all)
