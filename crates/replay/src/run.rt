@@ -2,14 +2,18 @@
 ghost use Rattle.std.specs.Prelude.{◌≤◌};
 
 use crate::digest::Digest;
+use crate::input::read_full;
 use crate::record::{Answers, Record};
 use crate::tally::{Next, Tally};
+use std::io::{Read, Write};
 
-// The number of standard input. A read that fails ends the input, as `io::read_full` has it.
-const STDIN_FILENO: i32 = 0;
-
-/// Replays the list on standard input, and reports to standard output. `body` has room for the longest record.
-pub fn replay<const N: usize, Q: Record<N> + Drop>(body: &mut [u8], stores: &mut Q::Stores)
+/// Replays the list that `reader` gives, and reports to `writer`. `body` has room for the longest record.
+pub fn replay<const N: usize, Q: Record<N> + Drop, R: Read, W: Write>(
+    reader: &mut R,
+    writer: &mut W,
+    body: &mut [u8],
+    stores: &mut Q::Stores,
+)
     requires has_digest { 8 ≤ N }
     requires is_short { N ≤ 64 }
 {
@@ -20,13 +24,14 @@ pub fn replay<const N: usize, Q: Record<N> + Drop>(body: &mut [u8], stores: &mut
         if tally.next != Next::Record {
             break;
         }
-        tally = replay_record::<N, Q>(tally, body, stores);
+        tally = replay_record::<N, Q, R>(tally, reader, body, stores);
     }
-    tally.report();
+    tally.report(writer);
 }
 
-fn replay_record<const N: usize, Q: Record<N> + Drop>(
+fn replay_record<const N: usize, Q: Record<N> + Drop, R: Read>(
     tally: Tally,
+    reader: &mut R,
     body: &mut [u8],
     stores: &mut Q::Stores,
 ) -> Tally
@@ -34,7 +39,7 @@ fn replay_record<const N: usize, Q: Record<N> + Drop>(
     requires is_short { N ≤ 64 }
 {
     let mut header = [0u8; N];
-    let got = io::read_full(STDIN_FILENO, &mut header);
+    let got = read_full(reader, &mut header);
     if got == 0 {
         return tally.stopped(Next::Ended);
     }
@@ -45,7 +50,7 @@ fn replay_record<const N: usize, Q: Record<N> + Drop>(
         return tally.stopped(Next::Bad);
     };
     let n = record.length();
-    if body.len() < n || io::read_full(STDIN_FILENO, &mut body[..n]) < n {
+    if body.len() < n || read_full(reader, &mut body[..n]) < n {
         return tally.stopped(Next::Bad);
     }
     match record.ask(&mut body[..n], stores) {

@@ -1,7 +1,5 @@
 // The tally of replayed records, and how a program reports it.
-
-// The number of standard output.
-const STDOUT_FILENO: i32 = 1;
+use std::io::Write;
 
 // Whether there is more to read.
 #[derive(Clone, Copy, PartialEq)]
@@ -55,21 +53,21 @@ impl Tally {
     }
 
     // A write that fails is not told, and the later ones are still tried.
-    pub fn report(self) {
+    pub fn report<W: Write>(self, writer: &mut W) {
         if self.next == Next::Bad {
-            io::write_all(STDOUT_FILENO, b"bad list\n");
+            let _ = writer.write_all(b"bad list\n");
             return;
         }
-        line(b"questions ", self.questions);
-        line(b"differ ", self.differ);
+        line(writer, b"questions ", self.questions);
+        line(writer, b"differ ", self.differ);
         if let Some(first) = self.first {
-            line(b"first ", first);
+            line(writer, b"first ", first);
         }
     }
 }
 
-fn line(name: &[u8], n: u64) {
-    io::write_all(STDOUT_FILENO, name);
-    io::print_decimal(STDOUT_FILENO, n);
-    io::write_all(STDOUT_FILENO, b"\n");
+fn line<W: Write>(writer: &mut W, name: &[u8], n: u64) {
+    let _ = writer.write_all(name);
+    let _ = write!(writer, "{n}");
+    let _ = writer.write_all(b"\n");
 }

@@ -8,9 +8,9 @@ mod ask;
 mod record;
 
 use record::{HEADER, LONGEST, Question};
-use replay::replay;
+use replay::{Input, Output, replay};
 
 fn main() {
     let mut bytes = [0u8; LONGEST];
-    replay::<HEADER, Question>(&mut bytes, &mut ());
+    replay::<HEADER, Question, _, _>(&mut Input::default(), &mut Output, &mut bytes, &mut ());
 }

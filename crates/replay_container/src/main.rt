@@ -9,7 +9,7 @@ mod ask;
 mod record;
 
 use record::{HEADER, LARGEST_ROOM, LONGEST, MOST_RUNS, MOST_SIZES, Question, RUN, Stores};
-use replay::{fill, replay};
+use replay::{Input, Output, fill, replay};
 
 fn main() {
     let mut runs = [0u8; MOST_RUNS * RUN];
@@ -19,5 +19,5 @@ fn main() {
         store: [0; LARGEST_ROOM],
     };
     fill(&mut stores.bytes, ask::lent_byte);
-    replay::<HEADER, Question>(&mut runs, &mut stores);
+    replay::<HEADER, Question, _, _>(&mut Input::default(), &mut Output, &mut runs, &mut stores);
 }

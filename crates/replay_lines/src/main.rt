@@ -8,10 +8,10 @@ mod ask;
 mod record;
 
 use record::{HEADER, LARGEST_ROOM, LONGEST, Question};
-use replay::replay;
+use replay::{Input, Output, replay};
 
 fn main() {
     let mut bytes = [0u8; LONGEST];
     let mut store = [0i64; LARGEST_ROOM];
-    replay::<HEADER, Question>(&mut bytes, &mut store);
+    replay::<HEADER, Question, _, _>(&mut Input::default(), &mut Output, &mut bytes, &mut store);
 }

@@ -9,7 +9,7 @@ mod files;
 mod record;
 
 use record::{HEADER, LONGEST_BODY, LONGEST_FILE, MOST_BYTES, Question, Stores};
-use replay::replay;
+use replay::{Input, Output, replay};
 
 fn main() {
     let mut body = [0u8; LONGEST_BODY];
@@ -18,5 +18,5 @@ fn main() {
         file: [0; LONGEST_FILE],
         bytes: [0; MOST_BYTES],
     };
-    replay::<HEADER, Question>(&mut body, &mut stores);
+    replay::<HEADER, Question, _, _>(&mut Input::default(), &mut Output, &mut body, &mut stores);
 }

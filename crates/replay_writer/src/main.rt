@@ -9,7 +9,7 @@ mod ask;
 mod record;
 
 use record::{HEADER, LARGEST_ROOM, LONGEST, Question, Stores, WIDTH};
-use replay::replay;
+use replay::{Input, Output, replay};
 
 fn main() {
     let mut body = [0u8; LONGEST * WIDTH];
@@ -17,5 +17,5 @@ fn main() {
         list: [0; LONGEST],
         store: [0; LARGEST_ROOM],
     };
-    replay::<HEADER, Question>(&mut body, &mut stores);
+    replay::<HEADER, Question, _, _>(&mut Input::default(), &mut Output, &mut body, &mut stores);
 }

@@ -1,0 +1,6 @@
+-- What is read lies within the buffer.
+use Rattle.std.proofs.Common.{◌≤◌, length}
+use Rattle.replay.proofs.input.read_full.Given as goal
+
+abbrev pub invariant-loop : goal.invariant-loop
+invariant-loop g l = l.done ≤ length l.buf
